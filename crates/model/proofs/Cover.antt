@@ -1,0 +1,106 @@
+-- Cover (α, β) is the (α, β)-core of Definition 2.1, and covers nest. Assumes nothing.
+use mathlib.Core.Path.{_≡_, sym, subst}
+use mathlib.Core.Bool.{Bool, _&&_}
+use mathlib.Core.List.{List}
+use Prim.Native.Nat.{ℕ, _+_, _-_, _≤_, _<_}
+use native.Mathlib.Omega.{arith}
+use native.Mathlib.Decide.{decLt}
+use lib.Dec.{T}
+use borrow.Author.Tests.{lt-ltb, le-ltb}
+use lib.ListN.{replicate}
+use Rattle.model.specs.Count.{count}
+use Rattle.model.specs.Graph.{Graph, nodes, degree, everybody, Inside, Meets, Largest, limits, Core, marked, peel, cover}
+use Rattle.model.specs.Demand.{PeelLaws, CoverLaws}
+use Rattle.model.proofs.Count.{and-right, count-le, count-witness}
+use Rattle.model.proofs.Peel.{degree-operator, degree-ride, all-marked, peel-laws}
+
+module _ (g : Graph) (α β x : ℕ) where
+  pub limits-operator : x < g .operators → limits g α β x ≡ α
+  unfolding limits
+  limits-operator h = rw (lt-ltb x (g .operators) h, limits)
+
+  pub limits-ride : g .operators ≤ x → limits g α β x ≡ β
+  unfolding limits
+  limits-ride h = rw (le-ltb x (g .operators) h, limits)
+
+module _ (g : Graph) (α α′ β β′ : ℕ) (a : α ≤ α′) (b : β ≤ β′) where
+  limits-mono : (x : ℕ) → limits g α β x ≤ limits g α′ β′ x
+  limits-mono x =
+      elim (decLt x (g .operators)) [
+        | yes h ↦ omega (arith, limits-operator g α β x h, limits-operator g α′ β′ x h)
+        | no h ↦ omega (arith, limits-ride g α β x (omega arith), limits-ride g α′ β′ x (omega arith))
+      ]
+
+-- ---- a node with a neighbour in the set
+
+module _ (g : Graph) (s : ℕ → Bool) (x : ℕ) where
+  pub degree-operator-le : x < g .operators → degree g s x ≤ g .rides
+  degree-operator-le h =
+      omega (arith, degree-operator g s x h, count-le (λ v. g .cleared x v && s (g .operators + v)) (g .rides))
+
+  pub degree-ride-le : g .operators ≤ x → degree g s x ≤ g .operators
+  degree-ride-le h =
+      omega (arith, degree-ride g s x h, count-le (λ u. g .cleared u (x - g .operators) && s u) (g .operators))
+
+  ride-of : x < g .operators → 1 ≤ degree g s x → (y : ℕ) × (g .operators ≤ y) × (y < nodes g) × T (s y)
+  ride-of h d =
+      let w = count-witness (λ v. g .cleared x v && s (g .operators + v)) (g .rides) (omega (arith, degree-operator g s x h)) in
+      (g .operators + w .0, omega arith, omega (arith, w .1), and-right (g .cleared x (w .0)) (s (g .operators + w .0)) (w .2))
+
+  operator-of : g .operators ≤ x → 1 ≤ degree g s x → (y : ℕ) × (y < g .operators) × T (s y)
+  operator-of h d =
+      let w = count-witness (λ u. g .cleared u (x - g .operators) && s u) (g .operators) (omega (arith, degree-ride g s x h)) in
+      (w .0, w .1, and-right (g .cleared (w .0) (x - g .operators)) (s (w .0)) (w .2))
+
+-- ---- the cover
+
+-- the largest set inside all ones is the largest of all
+pub cover-core : (g : Graph) (α β : ℕ) → Core g α β (marked (cover g α β))
+unfolding cover
+cover-core g α β =
+    let ones : List ℕ = replicate (nodes g) 1 in
+    let l = peel-laws .largest g (limits g α β) (nodes g) ones (peel-laws .settles g (limits g α β) (nodes g) ones (count-le (marked ones) (nodes g))) in
+    record {
+      inside = λ x h t. tt;
+      meets = l .meets;
+      largest = λ t i m. l .largest t (λ x h k. all-marked g x h) m;
+    }
+
+-- a set that meets the limits lies inside the cover
+pub cover-holds : (g : Graph) (α β : ℕ) (t : ℕ → Bool) → Meets g (limits g α β) t → Inside g t (marked (cover g α β))
+cover-holds g α β t m = cover-core g α β .largest t (λ x h k. tt) m
+
+pub cover-laws : CoverLaws
+cover-laws =
+    record {
+      core = cover-core;
+      nest = λ g α α′ β β′ a b.
+          cover-holds g α β (marked (cover g α′ β′)) (λ x h t. omega (arith, cover-core g α′ β′ .meets x h t, limits-mono g α α′ β β′ a b x));
+    }
+
+-- a cover with β from 1 that holds somebody holds an operator; with α from 1, a ride
+module _ (g : Graph) (α β x : ℕ) (h : x < nodes g) (t : T (marked (cover g α β) x)) where
+  pub cover-operator : 1 ≤ β → (y : ℕ) × (y < g .operators) × T (marked (cover g α β) y)
+  cover-operator b =
+      elim (decLt x (g .operators)) [
+        | yes l ↦ (x, l, t)
+        | no l ↦ operator-of g (marked (cover g α β)) x (omega arith) (omega (arith, cover-core g α β .meets x h t, limits-ride g α β x (omega arith)))
+      ]
+
+  pub cover-ride : 1 ≤ α → (y : ℕ) × (g .operators ≤ y) × (y < nodes g) × T (marked (cover g α β) y)
+  cover-ride a =
+      elim (decLt x (g .operators)) [
+        | yes l ↦ ride-of g (marked (cover g α β)) x l (omega (arith, cover-core g α β .meets x h t, limits-operator g α β x l))
+        | no l ↦ (x, omega arith, h, t)
+      ]
+
+  -- a cover that holds somebody has β at most the number of operators, and α at most that of rides
+  pub cover-low-β : 1 ≤ α → β ≤ g .operators
+  cover-low-β a =
+      let y = cover-ride a in
+      omega (arith, cover-core g α β .meets (y .0) (y .2) (y .3), limits-ride g α β (y .0) (y .1), degree-ride-le g (marked (cover g α β)) (y .0) (y .1))
+
+  pub cover-low-α : 1 ≤ β → α ≤ g .rides
+  cover-low-α b =
+      let y = cover-operator b in
+      omega (arith, cover-core g α β .meets (y .0) (omega (arith, y .1)) (y .2), limits-operator g α β (y .0) (y .1), degree-operator-le g (marked (cover g α β)) (y .0) (y .1))

@@ -1,0 +1,49 @@
+-- The starred samples of document 01 hold: one test that is computed over the table, and the law that turns it into equations. Assumes nothing.
+use mathlib.Core.Path.{_≡_, refl, ap₂}
+use mathlib.Core.Bool.{Bool, true, false, _&&_}
+use mathlib.Core.List.{List, [], _∷_}
+use Prim.Native.Nat.{ℕ}
+use lib.Dec.{T, eqb, eqb→eq}
+use Rattle.model.specs.Count
+use Rattle.model.specs.Graph
+use Rattle.model.specs.Layout
+use Rattle.model.specs.Refusal
+use Rattle.model.specs.Calls
+use Rattle.model.specs.Samples.{samples, Agree}
+
+-- the test: two lists are equal word by word
+abbrev same : List ℕ → List ℕ → Bool
+same [] [] = true
+same [] (y ∷ ys) = false
+same (x ∷ xs) [] = false
+same (x ∷ xs) (y ∷ ys) = eqb x y && same xs ys
+
+abbrev all-same : List (List ℕ × List ℕ) → Bool
+all-same [] = true
+all-same (r ∷ rs) = same (r .0) (r .1) && all-same rs
+
+and-left : (a b : Bool) → T (a && b) → T a
+and-left true b t = tt
+and-left false b t = t
+
+and-right : (a b : Bool) → T (a && b) → T b
+and-right true b t = t
+and-right false b t = absurd t
+
+same-equal : (xs ys : List ℕ) → T (same xs ys) → xs ≡ ys
+same-equal [] [] t = refl
+same-equal [] (y ∷ ys) t = absurd t
+same-equal (x ∷ xs) [] t = absurd t
+same-equal (x ∷ xs) (y ∷ ys) t = ap₂ _∷_ (eqb→eq x y (and-left (eqb x y) (same xs ys) t)) (same-equal xs ys (and-right (eqb x y) (same xs ys) t))
+
+all-agree : (rs : List (List ℕ × List ℕ)) → T (all-same rs) → Agree rs
+all-agree [] t = tt
+all-agree (r ∷ rs) t =
+    (same-equal (r .0) (r .1) (and-left (same (r .0) (r .1)) (all-same rs) t), all-agree rs (and-right (same (r .0) (r .1)) (all-same rs) t))
+
+tested : T (all-same samples)
+unfolding samples Count.count Count.some Count.lowest Count.values Count.rows Graph.degree Graph.limits Graph.short Graph.settled Graph.removals Graph.without Graph.peel Graph.cover Graph.level-to Graph.level Graph.row Graph.index-of Layout.listed Layout.differing Refusal.refused-5 Refusal.refused-12 Refusal.lowest-number Refusal.peel-refusal Calls.peeled Calls.board-peel
+tested = tt
+
+pub samples-hold : Agree samples
+samples-hold = all-agree samples tested

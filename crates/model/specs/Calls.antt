@@ -1,0 +1,93 @@
+-- Document 01, What the board does: build, query and peel, each a function from all that comes in to all that comes out.
+use mathlib.Core.Bool.{true, false, _&&_}
+use mathlib.Core.List.{List}
+use Prim.Native.Nat.{ℕ, zero, suc, _+_, _-_, _*_}
+use lib.Dec.{leb}
+use lib.ListN.{length, getD, take}
+use Rattle.model.specs.declared.Head.{Head}
+use Rattle.model.specs.declared.Counts.{Counts}
+use Rattle.model.specs.declared.Peeled.{Peeled}
+use Rattle.model.specs.Count.{bit, count, values, rows}
+use Rattle.model.specs.Graph.{Graph, limits, marked, settled, removals, peel, index-of}
+use Rattle.model.specs.Layout.{Board, mark-places, over, graph, zero-tail}
+use Rattle.model.specs.Refusal.{build-refusal, query-refusal, peel-refusal}
+
+-- what a build gives: the number, and the board at exit
+pub record BuildOutcome : Type 0 where
+  pub code : ℕ
+  pub board : Board
+
+-- the stamps that a build sets: the starting stamp for listed pairs, 0 for the others
+unfoldable pub start-stamps : Graph → ℕ → List ℕ
+start-stamps g start = rows (g .operators) (g .rides) (λ u v. elim (g .cleared u v) [ true ↦ start | false ↦ 0 ])
+
+-- Build, where no number applies
+unfoldable pub built : Board → ℕ → Board
+built b start =
+    record {
+      head = b .head;
+      operators = over (zero-tail (b .head) (b .operators)) (b .operators);
+      rides = over (zero-tail (b .head) (b .rides)) (b .rides);
+      stamps = over (start-stamps (graph (b .head) (b .operators) (b .rides)) start) (b .stamps);
+      index = over (index-of (graph (b .head) (b .operators) (b .rides))) (b .index);
+    }
+
+-- Build
+unfoldable pub board-build : Board → ℕ → BuildOutcome
+board-build b start =
+    elim (build-refusal b start) [
+      | zero ↦ record { code = 0; board = built b start }
+      | suc k ↦ record { code = suc k; board = b }
+    ]
+
+-- what a query gives: its answer, and the marks at exit
+pub record QueryOutcome : Type 0 where
+  pub answer : Counts
+  pub marks : List ℕ
+
+-- the marks that a query sets: 1 exactly if the row α level is at least β; α above rides marks nobody
+unfoldable pub query-marks : Head → List ℕ → ℕ → ℕ → List ℕ
+query-marks h index α β =
+    values (mark-places h) (λ x. bit (leb α (h .rides) && leb β (getD index ((α - 1) * mark-places h + x) 0)))
+
+-- the counts of operators and rides marked
+unfoldable pub counts : Head → List ℕ → Counts
+counts h marks =
+    record {
+      code = 0;
+      operators = count (h .operators) (marked marks);
+      rides = count (h .rides) (λ v. marked marks (h .operators + v));
+    }
+
+-- Query
+unfoldable pub board-query : Head → List ℕ → ℕ → ℕ → List ℕ → QueryOutcome
+board-query h index α β marks =
+    elim (query-refusal h index α β marks) [
+      | zero ↦ record { answer = counts h (query-marks h index α β); marks = over (query-marks h index α β) marks }
+      | suc k ↦ record { answer = record { code = suc k; operators = 0; rides = 0 }; marks = marks }
+    ]
+
+-- what a peel gives: its answer, and the marks at exit
+pub record PeelOutcome : Type 0 where
+  pub answer : Peeled
+  pub marks : List ℕ
+
+-- Peel under any limits, from any marks: settled or unsettled, the steps taken, and the marks left
+unfoldable pub peeled : Graph → (ℕ → ℕ) → ℕ → List ℕ → PeelOutcome
+peeled g limit allowed marks =
+    record {
+      answer = record {
+        code = 0;
+        settled = bit (settled g limit (peel g limit allowed marks));
+        steps = length (removals g limit allowed marks);
+      };
+      marks = peel g limit allowed marks;
+    }
+
+-- Peel; it clears no mark past the nodes
+unfoldable pub board-peel : Head → List ℕ → List ℕ → List ℕ → ℕ → ℕ → ℕ → PeelOutcome
+board-peel h operators rides marks α β allowed =
+    elim (peel-refusal h operators rides marks α β) [
+      | zero ↦ peeled (graph h operators rides) (limits (graph h operators rides) α β) allowed marks
+      | suc k ↦ record { answer = record { code = suc k; settled = 0; steps = 0 }; marks = marks }
+    ]

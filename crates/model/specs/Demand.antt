@@ -1,0 +1,95 @@
+-- What documents 000 and 01 say of the definitions, as statements for every graph, limit and starting set: proofs/ proves each record.
+use mathlib.Core.Path.{_≡_}
+use mathlib.Core.Logic.{_↔_, _≢_}
+use mathlib.Core.Bool.{Bool, true, false, not}
+use mathlib.Core.List.{List, [], _∷_}
+use Prim.Native.Nat.{ℕ, _+_, _-_, _*_, _≤_, _<_, max}
+use lib.Dec.{T}
+use lib.ListN.{length, getD, set, drop, replicate}
+use Rattle.model.specs.declared.Head.{Head}
+use Rattle.model.specs.Count.{count, some}
+use Rattle.model.specs.Graph.{Graph, nodes, degree, everybody, Inside, Largest, Core, marked, short, settled, removals, peel, cover, level, index-of}
+use Rattle.model.specs.Layout.{graph}
+use Rattle.model.specs.Calls.{query-marks}
+
+-- how many nodes are marked
+abbrev pub members : Graph → List ℕ → ℕ
+members g s = count (nodes g) (marked s)
+
+-- x is the lowest-numbered node that falls short in s
+pub record LowestShort (g : Graph) (limit : ℕ → ℕ) (s : List ℕ) (x : ℕ) : Type 0 where
+  pub node : x < nodes g
+  pub falls : T (short g limit s x)
+  pub lowest : (y : ℕ) → y < x → T (short g limit s y) → ⊥
+
+-- each node of the list, at its turn, is the lowest-numbered that falls short
+abbrev pub Dropped : Graph → (ℕ → ℕ) → List ℕ → List ℕ → Type 0
+Dropped g limit s [] = Unit
+Dropped g limit s (x ∷ xs) = LowestShort g limit s x × Dropped g limit (set s x 0) xs
+
+-- Peel, and that a largest set is the only one
+pub record PeelLaws : Type 0 where
+  -- one a step, only who falls short is cleared, the lowest-numbered first; at most the allowed steps are taken
+  pub drops : (g : Graph) (limit : ℕ → ℕ) (f : ℕ) (s : List ℕ) → Dropped g limit s (removals g limit f s)
+  pub allowed : (g : Graph) (limit : ℕ → ℕ) (f : ℕ) (s : List ℕ) → length (removals g limit f s) ≤ f
+  -- as many steps as there are marked nodes are enough to settle
+  pub settles : (g : Graph) (limit : ℕ → ℕ) (f : ℕ) (s : List ℕ) → members g s ≤ f → T (settled g limit (peel g limit f s))
+  -- settled marks are the largest set inside the marks that came in
+  pub largest : (g : Graph) (limit : ℕ → ℕ) (f : ℕ) (s : List ℕ) → T (settled g limit (peel g limit f s)) → Largest g limit (marked s) (marked (peel g limit f s))
+  pub only : (g : Graph) (limit : ℕ → ℕ) (start s t : ℕ → Bool) → Largest g limit start s → Largest g limit start t → (x : ℕ) → x < nodes g → s x ≡ t x
+  -- unsettled exactly if all allowed steps were taken and somebody still falls short
+  pub unsettled : (g : Graph) (limit : ℕ → ℕ) (f : ℕ) (s : List ℕ) → T (not (settled g limit (peel g limit f s))) ↔ ((length (removals g limit f s) ≡ f) × T (some (nodes g) (short g limit (peel g limit f s))))
+  -- each step clears one mark; from all ones steps taken = operators + rides − members
+  pub steps : (g : Graph) (limit : ℕ → ℕ) (f : ℕ) (s : List ℕ) → members g (peel g limit f s) + length (removals g limit f s) ≡ members g s
+  pub steps-from-all : (g : Graph) (limit : ℕ → ℕ) (f : ℕ) → length (removals g limit f (replicate (nodes g) 1)) ≡ nodes g - members g (peel g limit f (replicate (nodes g) 1))
+  -- marks past the nodes stay
+  pub tail : (g : Graph) (limit : ℕ → ℕ) (f : ℕ) (s : List ℕ) → drop (nodes g) (peel g limit f s) ≡ drop (nodes g) s
+
+-- Cover (α, β) is the (α, β)-core of Definition 2.1, also for limits 0; covers nest in α and in β
+pub record CoverLaws : Type 0 where
+  pub core : (g : Graph) (α β : ℕ) → Core g α β (marked (cover g α β))
+  pub nest : (g : Graph) (α α′ β β′ : ℕ) → α ≤ α′ → β ≤ β′ → Inside g (marked (cover g α′ β′)) (marked (cover g α β))
+
+-- the graph g with other clearances
+abbrev pub changed : Graph → (ℕ → ℕ → Bool) → Graph
+changed g c = record { operators = g .operators; rides = g .rides; cleared = c }
+
+-- Level and Index
+pub record LevelLaws : Type 0 where
+  -- x is in cover (α, β) exactly if β is at most its level in row α
+  pub holds : (g : Graph) (α β x : ℕ) → 1 ≤ α → 1 ≤ β → x < nodes g → T (marked (cover g α β) x) ↔ (β ≤ level g α x)
+  -- levels depend on the clearances below the sizes and on nothing else
+  pub same : (g : Graph) (c : ℕ → ℕ → Bool) → ((u v : ℕ) → u < g .operators → v < g .rides → g .cleared u v ≡ c u v) → (α x : ℕ) → x < nodes g → level (changed g c) α x ≡ level g α x
+  -- a row above the largest degree of an operator is all 0
+  pub above : (g : Graph) (α : ℕ) → ((u : ℕ) → u < g .operators → degree g everybody u < α) → (x : ℕ) → x < nodes g → level g α x ≡ 0
+  pub bound : (g : Graph) (α x : ℕ) → level g α x ≤ g .operators
+  -- row α starts at (α − 1) × (operators + rides)
+  pub place : (g : Graph) (α x : ℕ) → 1 ≤ α → α ≤ g .rides → x < nodes g → getD (index-of g) ((α - 1) * nodes g + x) 0 ≡ level g α x
+
+-- Demand 2 for queries: on the index of a pair table the marks are the (α, β)-core, for every α and β from 1
+abbrev pub QueryIsCore : Type 0
+QueryIsCore =
+    (h : Head) (operators rides : List ℕ) (α β : ℕ) →
+    1 ≤ α →
+    1 ≤ β →
+    Core (graph h operators rides) α β (marked (query-marks h (index-of (graph h operators rides)) α β))
+
+-- the clearances c are those of g with the pair (u, v) added
+pub record Added (g : Graph) (c : ℕ → ℕ → Bool) (u v : ℕ) : Type 0 where
+  pub operator : u < g .operators
+  pub ride : v < g .rides
+  pub absent : g .cleared u v ≡ false
+  pub present : c u v ≡ true
+  pub others : (a b : ℕ) → a < g .operators → b < g .rides → (a ≡ u → b ≡ v → ⊥) → g .cleared a b ≡ c a b
+
+-- how levels move from g to g′, which has one pair of the operator u more; from g′ to g, where it is removed, they move back
+pub record OneMove (g g′ : Graph) (u : ℕ) : Type 0 where
+  -- rows above the larger of the operator's two degrees stay
+  pub stays : (α x : ℕ) → max (degree g everybody u) (degree g′ everybody u) < α → x < nodes g → level g′ α x ≡ level g α x
+  -- in every other row each level but that operator's own moves by at most 1, up where the pair is added
+  pub up : (α x : ℕ) → 1 ≤ α → x < nodes g → x ≢ u → level g α x ≤ level g′ α x
+  pub by-one : (α x : ℕ) → 1 ≤ α → x < nodes g → x ≢ u → level g′ α x ≤ level g α x + 1
+
+-- Demand 3, its last sentence, of any two sets of clearances that differ in one pair
+abbrev pub OnePair : Type 0
+OnePair = (g : Graph) (c : ℕ → ℕ → Bool) (u v : ℕ) → Added g c u v → OneMove g (changed g c) u

@@ -1,0 +1,104 @@
+-- Document 000, Definition 2.1, and document 01, Terms and Peel: degree, the largest set under limits, peel, cover, level, index.
+-- Nodes are numbered as marks and index rows are: operators 0 .. operators - 1, then rides.
+use mathlib.Core.Path.{_≡_}
+use mathlib.Core.Bool.{Bool, true, false, _&&_, not}
+use mathlib.Core.List.{List, [], _∷_}
+use Prim.Native.Nat.{ℕ, zero, suc, _+_, _-_, _≤_, _<_}
+use lib.Dec.{T, ltb, eqb}
+use lib.ListN.{getD, set, replicate}
+use Rattle.model.specs.Count.{count, some, lowest, values, rows}
+
+-- the clearance graph: how many operators and rides there are, and which operator is cleared for which ride
+pub record Graph : Type 0 where
+  pub operators : ℕ
+  pub rides : ℕ
+  pub cleared : ℕ → ℕ → Bool
+
+-- the number of nodes: operators and rides
+abbrev pub nodes : Graph → ℕ
+nodes g = g .operators + g .rides
+
+-- Degree inside a set s: of an operator, the rides of s that it is cleared for; of a ride, the operators of s cleared for it
+unfoldable pub degree : Graph → (ℕ → Bool) → ℕ → ℕ
+degree g s x =
+    elim (ltb x (g .operators)) [
+      | true ↦ count (g .rides) (λ v. g .cleared x v && s (g .operators + v))
+      | false ↦ count (g .operators) (λ u. g .cleared u (x - g .operators) && s u)
+    ]
+
+-- everybody: the set of all nodes
+abbrev pub everybody : ℕ → Bool
+everybody x = true
+
+-- of the nodes of g, those of s are all in t
+abbrev pub Inside : Graph → (ℕ → Bool) → (ℕ → Bool) → Type 0
+Inside g s t = (x : ℕ) → x < nodes g → T (s x) → T (t x)
+
+-- each node of s has at least its limit of neighbours in s
+abbrev pub Meets : Graph → (ℕ → ℕ) → (ℕ → Bool) → Type 0
+Meets g limit s = (x : ℕ) → x < nodes g → T (s x) → limit x ≤ degree g s x
+
+-- s is the largest set inside start whose nodes all meet their limits
+pub record Largest (g : Graph) (limit : ℕ → ℕ) (start s : ℕ → Bool) : Type 0 where
+  pub inside : Inside g s start
+  pub meets : Meets g limit s
+  pub largest : (t : ℕ → Bool) → Inside g t start → Meets g limit t → Inside g t s
+
+-- the limits of a cover (α, β): α for operators, β for rides
+unfoldable pub limits : Graph → ℕ → ℕ → ℕ → ℕ
+limits g α β x = elim (ltb x (g .operators)) [ true ↦ α | false ↦ β ]
+
+-- Definition 2.1: s is the (α, β)-core
+abbrev pub Core : Graph → ℕ → ℕ → (ℕ → Bool) → Type 0
+Core g α β s = Largest g (limits g α β) everybody s
+
+-- the set that Marks stand for: 1 is in
+abbrev pub marked : List ℕ → ℕ → Bool
+marked s x = eqb (getD s x 0) 1
+
+-- who falls short: marked, with fewer marked neighbours than its limit
+unfoldable pub short : Graph → (ℕ → ℕ) → List ℕ → ℕ → Bool
+short g limit s x = marked s x && ltb (degree g (marked s) x) (limit x)
+
+-- settled: nobody falls short
+unfoldable pub settled : Graph → (ℕ → ℕ) → List ℕ → Bool
+settled g limit s = not (some (nodes g) (short g limit s))
+
+-- Peel: the nodes cleared in at most f steps, in order: each the lowest-numbered operator that falls short, else the lowest-numbered ride
+unfoldable pub removals : Graph → (ℕ → ℕ) → ℕ → List ℕ → List ℕ
+removals g limit zero s = []
+removals g limit (suc f) s =
+    elim (settled g limit s) [
+      | true ↦ []
+      | false ↦ lowest (nodes g) (short g limit s) ∷ removals g limit f (set s (lowest (nodes g) (short g limit s)) 0)
+    ]
+
+-- the marks s with those of the nodes xs cleared
+unfoldable pub without : List ℕ → List ℕ → List ℕ
+without s [] = s
+without s (x ∷ xs) = without (set s x 0) xs
+
+-- Peel: the marks after at most f steps
+unfoldable pub peel : Graph → (ℕ → ℕ) → ℕ → List ℕ → List ℕ
+peel g limit f s = without s (removals g limit f s)
+
+-- Cover (α, β), as marks: the peel from all ones
+unfoldable pub cover : Graph → ℕ → ℕ → List ℕ
+cover g α β = peel g (limits g α β) (nodes g) (replicate (nodes g) 1)
+
+-- the largest β from 1 to b whose cover (α, β) holds x, or 0 if none does
+unfoldable pub level-to : Graph → ℕ → ℕ → ℕ → ℕ
+level-to g α x zero = 0
+level-to g α x (suc b) = elim (marked (cover g α (suc b)) x) [ true ↦ suc b | false ↦ level-to g α x b ]
+
+-- Level of x in row α: no cover from α = 1 on holds anybody with β above the number of operators
+unfoldable pub level : Graph → ℕ → ℕ → ℕ
+level g α x = level-to g α x (g .operators)
+
+-- row α of the Index: the levels of the operators, then of the rides
+unfoldable pub row : Graph → ℕ → List ℕ
+row g α = values (nodes g) (level g α)
+
+-- Index: the rows α = 1 to rides
+unfoldable pub index-of : Graph → List ℕ
+index-of g = rows (g .rides) (nodes g) (λ a x. level g (suc a) x)

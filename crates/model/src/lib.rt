@@ -1,0 +1,41 @@
+// The types of the board's calls, as document 01 lays them out. The definitions in specs/ speak of them.
+
+// Head: the sizes, and the number of pairs.
+#[repr(C)]
+pub struct Head {
+    pub operators: u16,
+    pub rides: u16,
+    pub pairs: u16,
+}
+
+// Message: kind 1 is a grant, 2 a withdrawal.
+#[repr(C)]
+pub struct Message {
+    pub kind: u16,
+    pub operator: u16,
+    pub ride: u16,
+    pub stamp: u32,
+}
+
+// What a query answers: document 01's number, and how many operators and rides it marked.
+#[repr(C)]
+pub struct Counts {
+    pub code: u16,
+    pub operators: u16,
+    pub rides: u16,
+}
+
+// What a peel answers: document 01's number, settled (1) or unsettled (0), and the steps taken.
+#[repr(C)]
+pub struct Peeled {
+    pub code: u16,
+    pub settled: u16,
+    pub steps: u16,
+}
+
+// What a message answers: document 01's number, and how many index words differ before and after.
+#[repr(C)]
+pub struct Answer {
+    pub code: u16,
+    pub differ: u16,
+}

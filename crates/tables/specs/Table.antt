@@ -1,0 +1,22 @@
+-- Clearances as a dense table of bytes, in rows of a fixed width: what the fast rows and the peel read.
+use mathlib.Core.Path.{_≡_}
+use mathlib.Core.Bool.{Bool}
+use mathlib.Core.List.{List}
+use Prim.Native.Nat.{ℕ, _+_, _*_, _≤_, _<_}
+use lib.ListN.{length, getD}
+use Rattle.model.specs.Count.{bit}
+use Rattle.model.specs.Graph.{Graph}
+
+-- t holds the relation r of a rows and b columns: at i × w + j a 1 where r i j holds, else a 0
+pub record Table (r : ℕ → ℕ → Bool) (a b w : ℕ) (t : List ℕ) : Type 0 where
+  pub wide : b ≤ w
+  pub size : a * w ≤ length t
+  pub bits : (i j : ℕ) → i < a → j < b → getD t (i * w + j) 0 ≡ bit (r i j)
+
+-- the clearances of g by operator, in rows of 60 rides
+abbrev pub ByOperator : Graph → List ℕ → Type 0
+ByOperator g t = Table (g .cleared) (g .operators) (g .rides) 60 t
+
+-- the clearances of g by ride, in rows of 200 operators
+abbrev pub ByRide : Graph → List ℕ → Type 0
+ByRide g t = Table (λ v u. g .cleared u v) (g .rides) (g .operators) 200 t
