@@ -42,7 +42,7 @@ all-agree (r ∷ rs) t =
     (same-equal (r .0) (r .1) (and-left (same (r .0) (r .1)) (all-same rs) t), all-agree rs (and-right (same (r .0) (r .1)) (all-same rs) t))
 
 tested : T (all-same samples)
-unfolding samples Count.count Count.some Count.lowest Count.values Count.rows Graph.degree Graph.limits Graph.short Graph.settled Graph.removals Graph.without Graph.peel Graph.cover Graph.level-to Graph.level Graph.row Graph.index-of Layout.listed Layout.differing Refusal.refused-5 Refusal.refused-12 Refusal.lowest-number Refusal.peel-refusal Calls.peeled Calls.board-peel
+unfolding samples Count.count Count.some Count.lowest Count.values Count.rows Graph.degree Graph.limits Graph.short Graph.settled Graph.removals Graph.without Graph.peel Graph.cover Graph.level-to Graph.level Graph.row Graph.index-of Layout.listed Layout.differing Refusal.misplaced Refusal.refused-5 Refusal.refused-12 Refusal.lowest-number Refusal.peel-refusal Calls.peeled Calls.board-peel
 tested = tt
 
 pub samples-hold : Agree samples

@@ -39,10 +39,13 @@ unordered operators rides (suc i) =
 abbrev pub out-of-range : Head → ℕ → ℕ → Bool
 out-of-range h u v = leb (h .operators) u || leb (h .rides) v
 
+-- the pair at place i is out of range, or not after the one before it
+unfoldable pub misplaced : Head → List ℕ → List ℕ → ℕ → Bool
+misplaced h operators rides i = out-of-range h (getD operators i 0) (getD rides i 0) || unordered operators rides i
+
 -- 5: a pair out of range, or not strictly ascending
 unfoldable pub refused-5 : Head → List ℕ → List ℕ → Bool
-refused-5 h operators rides =
-    some (h .pairs) (λ i. out-of-range h (getD operators i 0) (getD rides i 0) || unordered operators rides i)
+refused-5 h operators rides = some (h .pairs) (misplaced h operators rides)
 
 -- the place of a pair's stamp
 abbrev pub stamp-place : Head → ℕ → ℕ → ℕ

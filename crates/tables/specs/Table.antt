@@ -5,7 +5,7 @@ use mathlib.Core.List.{List}
 use Prim.Native.Nat.{ℕ, _+_, _*_, _≤_, _<_}
 use lib.ListN.{length, getD}
 use Rattle.model.specs.Count.{bit}
-use Rattle.model.specs.Graph.{Graph}
+use Rattle.model.specs.Graph.{Graph, marked}
 
 -- t holds the relation r of a rows and b columns: at i × w + j a 1 where r i j holds, else a 0
 pub record Table (r : ℕ → ℕ → Bool) (a b w : ℕ) (t : List ℕ) : Type 0 where
@@ -20,3 +20,7 @@ ByOperator g t = Table (g .cleared) (g .operators) (g .rides) 60 t
 -- the clearances of g by ride, in rows of 200 operators
 abbrev pub ByRide : Graph → List ℕ → Type 0
 ByRide g t = Table (λ v u. g .cleared u v) (g .rides) (g .operators) 200 t
+
+-- every pair of the table is in range: its row below a, its column below w
+abbrev pub InRange : ℕ → ℕ → ℕ → List ℕ → List ℕ → Type 0
+InRange pairs a w rows columns = (i : ℕ) → i < pairs → (getD rows i 0 < a) × (getD columns i 0 < w)
