@@ -1,16 +1,18 @@
 -- The tests of a pair array's order and range, case by case, and of the places of a dense table. Assumes nothing.
-use mathlib.Core.Path.{_≡_, refl, sym, ap, _∙_}
+use mathlib.Core.Path.{_≡_, refl, sym, ap, _∙_, subst}
 use mathlib.Core.Logic.{_≢_}
 use mathlib.Core.Bool.{Bool, true, false, _||_, _&&_, not}
 use mathlib.Core.List.{List}
 use Prim.Native.Nat.{ℕ, zero, suc, _-_, _≤_, _<_}
 use native.Mathlib.Omega.{arith}
 use native.Mathlib.Decide.{decLt}
-use lib.Dec.{ltb, leb, eqb}
+use lib.Dec.{T, ltb, leb}
 use borrow.Author.Tests.{lt-ltb, le-ltb, le-leb, lt-leb, eq-eqb, ne-eqb}
 use lib.ListN.{getD}
 use Rattle.model.specs.declared.Head.{Head}
-use Rattle.model.specs.Refusal.{unordered, before, misplaced}
+use Rattle.model.specs.Refusal.{unordered, before, misplaced, refused-5}
+use Rattle.model.specs.Count.{some}
+use Rattle.model.proofs.Count.{test-true, test-false, some-holds, some-witness}
 
 -- not below is at least
 not-ltb : (a b : ℕ) → not (ltb a b) ≡ leb b a
@@ -48,3 +50,12 @@ module _ (h : Head) (operators rides : List ℕ) (i : ℕ) where
 
     pub lower-operator : i ≢ 0 → getD operators i 0 < getD operators (i - 1) 0 → true ≡ misplaced h operators rides i
     lower-operator n b = sym (later-place n ∙ rw (le-ltb (getD operators (i - 1) 0) (getD operators i 0) (omega arith), ne-eqb (getD operators (i - 1) 0) (getD operators i 0) (omega arith)))
+
+module _ (h : Head) (operators rides : List ℕ) where
+  pub one-misplaced : (i : ℕ) → i < h .pairs → misplaced h operators rides i ≡ true → false ≡ not (refused-5 h operators rides)
+  unfolding refused-5
+  one-misplaced i l e = sym (ap not (test-true (some (h .pairs) (misplaced h operators rides)) (some-holds (misplaced h operators rides) (h .pairs) i l (subst T (sym e) tt))))
+
+  pub none-misplaced : ((i : ℕ) → i < h .pairs → misplaced h operators rides i ≡ false) → true ≡ not (refused-5 h operators rides)
+  unfolding refused-5
+  none-misplaced f = sym (ap not (test-false (some (h .pairs) (misplaced h operators rides)) (λ t. let w = some-witness (misplaced h operators rides) (h .pairs) t in subst T (f (w .0) (w .1)) (w .2))))

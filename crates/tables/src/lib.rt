@@ -8,7 +8,6 @@ ghost use Rattle.model.specs.Count.{bit};
 ghost use Rattle.model.specs.Layout.{listed};
 ghost use Rattle.model.specs.Refusal.{misplaced as misplaced-at, refused-5};
 ghost use Rattle.tables.specs.Table.{InRange};
-
 use model::Head;
 
 // Whether the pair at place i is out of range, or not after the one before it.
@@ -55,7 +54,14 @@ pub fn ascending(head: Head, operators: &[u16], rides: &[u16]) -> bool
 }
 
 // Marks the listed pairs in a table of zeros: by operator, or by ride where the two arrays change places.
-pub fn fill(rows: &[u16], columns: &[u16], pairs: usize, width: usize, height: usize, table: &mut [u8])
+pub fn fill(
+    rows: &[u16],
+    columns: &[u16],
+    pairs: usize,
+    width: usize,
+    height: usize,
+    table: &mut [u8],
+)
     requires { ⌜ (pairs ≤ length (now rows)) × (pairs ≤ length (now columns)) × (height * width ≤ length (now table)) × InRange pairs height width (now rows) (now columns) ⌝ }
     requires { ⌜ ((k : ℕ) → getD (now table) k 0 ≡ 0) ⌝ }
     ensures { λ _. ⌜ ((i j : ℕ) → i < height → j < width → getD (now (table .exit)) (i * width + j) 0 ≡ bit (listed pairs (now (rows .entry)) (now (columns .entry)) i j)) ⌝ }

@@ -1,0 +1,60 @@
+-- Places of a dense table: two places are the same only where row and column are, and storing 1 at one adds its pair. Assumes nothing.
+use mathlib.Core.Path.{_≡_, refl, sym, ap, ap₂, _∙_, subst}
+use mathlib.Core.Logic.{_≢_}
+use mathlib.Core.Bool.{Bool, true, false, _&&_, _||_, not}
+use mathlib.Core.List.{List}
+use Prim.Native.Nat.{ℕ, zero, suc, _+_, _*_, _/_, _%_, _≤_, _<_}
+use native.Mathlib.Omega.{arith}
+use native.Mathlib.Decide.{ℕ-discrete, decLt}
+use native.Mathlib.Nat.{lt-of-lt-of-le}
+use lib.Arith.{digits-lt, digits-div, digits-mod}
+use lib.Dec.{T, eqb, eqb→eq, eqb-refl, ltb}
+use borrow.Author.Tests.{eq-eqb, ne-eqb}
+use lib.ListN.{length, getD, set}
+use lib.Seq.{getD-set-same, getD-set-other}
+use Rattle.model.specs.Count.{bit, count, some}
+use Rattle.model.specs.Layout.{pair-at, listed}
+use Rattle.model.proofs.Count.{by-test, test-true, test-false, test-ext, and-left, and-right, and-both, some-holds, some-witness}
+
+-- row i, column j lies inside
+pub place-lt : (a w i j : ℕ) → i < a → j < w → (n : ℕ) → a * w ≤ n → i * w + j < n
+place-lt a w i j h l n m = lt-of-lt-of-le (digits-lt h l) m
+
+pub place-row : (w i j i′ j′ : ℕ) → j < w → j′ < w → i * w + j ≡ i′ * w + j′ → i ≡ i′
+place-row w i j i′ j′ h h′ e = sym (digits-div i h) ∙ ap (λ (n : ℕ). n / w) e ∙ digits-div i′ h′
+
+pub place-column : (w i j i′ j′ : ℕ) → j < w → j′ < w → i * w + j ≡ i′ * w + j′ → j ≡ j′
+place-column w i j i′ j′ h h′ e = sym (digits-mod i h) ∙ ap (λ (n : ℕ). n % w) e ∙ digits-mod i′ h′
+
+module _ (rows columns : List ℕ) (k i j : ℕ) where
+  -- one place more lists its own pair
+  pub listed-here : getD rows k 0 ≡ i → getD columns k 0 ≡ j → listed (k + 1) rows columns i j ≡ true
+  unfolding listed
+  listed-here e f =
+      test-true (some (k + 1) (pair-at rows columns i j))
+      (some-holds (pair-at rows columns i j) (k + 1) k (omega arith) (and-both (eqb (getD rows k 0) i) (eqb (getD columns k 0) j) (subst (λ (z : ℕ). T (eqb (getD rows k 0) z)) e (eqb-refl (getD rows k 0))) (subst (λ (z : ℕ). T (eqb (getD columns k 0) z)) f (eqb-refl (getD columns k 0)))))
+
+  -- and no other
+  pub listed-before : (getD rows k 0 ≡ i → getD columns k 0 ≡ j → ⊥) → listed (k + 1) rows columns i j ≡ listed k rows columns i j
+  unfolding listed
+  listed-before n =
+      test-ext (some (k + 1) (pair-at rows columns i j)) (some k (pair-at rows columns i j))
+      (λ t. let w = some-witness (pair-at rows columns i j) (k + 1) t in elim (decLt (w .0) k) [ yes l ↦ some-holds (pair-at rows columns i j) k (w .0) l (w .2) | no l ↦ absurd (let e : w .0 ≡ k = omega (arith, w .1) in let p = subst (λ (z : ℕ). T (pair-at rows columns i j z)) e (w .2) in n (eqb→eq (getD rows k 0) i (and-left (eqb (getD rows k 0) i) (eqb (getD columns k 0) j) p)) (eqb→eq (getD columns k 0) j (and-right (eqb (getD rows k 0) i) (eqb (getD columns k 0) j) p))) ])
+      (λ t. let w = some-witness (pair-at rows columns i j) k t in some-holds (pair-at rows columns i j) (k + 1) (w .0) (omega (arith, w .1)) (w .2))
+
+-- a table of the first k pairs, with the next one stored, is the table of the first k + 1
+module _ (rows columns : List ℕ) (height width k : ℕ) (table : List ℕ) (size : height * width ≤ length table) (r : getD rows k 0 < height) (c : getD columns k 0 < width) (upto : (i j : ℕ) → i < height → j < width → getD table (i * width + j) 0 ≡ bit (listed k rows columns i j)) where
+  pub table-more : (i j : ℕ) → i < height → j < width → getD (set table (getD rows k 0 * width + getD columns k 0) 1) (i * width + j) 0 ≡ bit (listed (k + 1) rows columns i j)
+  table-more i j h l =
+      elim (ℕ-discrete (i * width + j) (getD rows k 0 * width + getD columns k 0)) [
+        | yes e ↦
+            rw (e, getD-set-same table (getD rows k 0 * width + getD columns k 0) 1 0 (place-lt height width (getD rows k 0) (getD columns k 0) r c (length table) size)) (sym (ap bit (listed-here rows columns k i j (sym (place-row width i j (getD rows k 0) (getD columns k 0) l c e)) (sym (place-column width i j (getD rows k 0) (getD columns k 0) l c e)))))
+        | no n ↦
+            getD-set-other table (getD rows k 0 * width + getD columns k 0) (i * width + j) 1 0 n ∙ upto i j h l ∙
+            sym (ap bit (listed-before rows columns k i j (λ e f. n (sym (ap₂ (λ (a b : ℕ). a * width + b) e f)))))
+      ]
+
+-- with no pairs nothing is listed
+pub listed-none : (rows columns : List ℕ) (i j : ℕ) → listed 0 rows columns i j ≡ false
+unfolding listed some count
+listed-none rows columns i j = refl

@@ -1,0 +1,66 @@
+use borrow.Author.Needs.{needs}
+use borrow.Author.Count.{below-more, below-none}
+use mathlib.Core.Path.{_≡_, refl, sym, _∙_}
+use mathlib.Core.Bool.{false}
+use Prim.Native.Nat.{ℕ, _≤_, _<_, _-_}
+use native.Mathlib.Omega.{arith}
+use Rattle.model.specs.Refusal.{misplaced}
+use Rattle.tables.proofs.Order.{one-misplaced, none-misplaced}
+use Rattle.tables.proofs.ascending.Statement.{statement}
+use Rattle.tables.proofs.ascending.Tie as tie
+use Rattle.tables.proofs.ascending.Reads as reads
+use Rattle.tables.proofs.ascending.Lts as lts
+use Rattle.tables.proofs.misplaced.Reads as misplaced-reads
+
+abbrev Inv-loop : tie.InvT-loop
+Inv-loop head operators rides pairs i₀ i = (pairs ≡ head .pairs) × (i ≤ pairs) × ((k : ℕ) → k < i → misplaced head operators rides k ≡ false)
+
+abbrev μ-loop : tie.MeasureT-loop
+μ-loop head operators rides pairs i₀ i = pairs - i
+
+-- src/lib.rt:46:17
+cast-pairs : tie.Need-cast-pairs Inv-loop μ-loop
+cast-pairs c = search needs
+
+-- src/lib.rt:48:5
+loop-holds : tie.Need-loop-holds Inv-loop μ-loop
+loop-holds c = (refl, omega arith, λ k l. absurd (let z : ⊥ = omega arith in z))
+
+-- src/lib.rt:49:12
+misplaced-requires : tie.Need-misplaced-requires Inv-loop μ-loop
+misplaced-requires c κs = search needs
+
+-- src/lib.rt:50:13
+returns : tie.Need-returns Inv-loop μ-loop
+returns c = one-misplaced _ _ _ (c .before .before .before .loop .i) (omega arith) (sym (c .before .misplaced .ensures) ∙ c .if1 .taken)
+
+-- src/lib.rt:52:9
+add-i : tie.Need-add-i Inv-loop μ-loop
+add-i c = search needs
+
+-- src/lib.rt:48:5
+loop-less : tie.Need-loop-less Inv-loop μ-loop
+loop-less c = search needs
+
+-- src/lib.rt:48:5
+loop-again : tie.Need-loop-again Inv-loop μ-loop
+loop-again c = (refl, omega arith, below-more _ _ (c .before .before .before .loop .inv .2) (sym (c .before .misplaced .ensures) ∙ c .if1 .left))
+
+-- src/lib.rt:42:1
+returns-2 : tie.Need-returns-2 Inv-loop μ-loop
+returns-2 c = none-misplaced _ _ _ (λ k l. c .before .loop .inv .2 k (omega arith))
+
+pub ascending-spec : {M : Type 1} → statement M
+ascending-spec =
+    tie.close
+    (tie.spec
+    Inv-loop
+    μ-loop
+    cast-pairs
+    loop-holds
+    misplaced-requires
+    returns
+    add-i
+    loop-less
+    loop-again
+    returns-2)
