@@ -46,7 +46,7 @@ pub and-both : (a b : Bool) → T a → T b → T (a && b)
 and-both true b s t = t
 and-both false b s t = absurd s
 
-bit-le : (b : Bool) → bit b ≤ 1
+pub bit-le : (b : Bool) → bit b ≤ 1
 bit-le true = omega arith
 bit-le false = omega arith
 
@@ -62,6 +62,11 @@ module _ (p : ℕ → Bool) where
   unfolding count
   count-le zero = omega arith
   count-le (suc k) = omega (arith, count-le k, bit-le (p k))
+
+  -- one number more
+  pub count-more : (k : ℕ) → count (k + 1) p ≡ count k p + bit (p k)
+  unfolding count
+  count-more k = ap (λ (n : ℕ). count n p) (add-one k)
 
   -- a number that passes is counted
   pub count-pos : (k y : ℕ) → y < k → T (p y) → 0 < count k p

@@ -1,4 +1,5 @@
 pub mod Count
+pub mod Store
 pub mod Peel
 pub mod Cover
 pub mod Level
