@@ -4,10 +4,10 @@ use mathlib.Core.Path.{_≡_}
 use mathlib.Core.Bool.{Bool, true, false, _&&_}
 use mathlib.Core.List.{List}
 use Prim.Native.Nat.{ℕ, _+_, _-_, _*_, _≤_, _<_}
-use lib.Dec.{ltb, leb}
+use lib.Dec.{T, ltb, leb}
 use lib.ListN.{length, getD, set}
 use Rattle.model.specs.Count.{bit, count}
-use Rattle.model.specs.Graph.{Graph, marked}
+use Rattle.model.specs.Graph.{Graph, nodes, Inside, marked, cover, level}
 use Rattle.tables.specs.Table.{Table}
 
 -- row i and column j of the table are joined
@@ -40,3 +40,53 @@ pub record Swept (t : List ℕ) (w : ℕ) (kept degrees levels : List ℕ) (limi
   pub levels-is : (k : ℕ) → k < i → getD levels′ k 0 ≡ elim (falls kept degrees limit k) [ true ↦ level | false ↦ getD levels k 0 ]
   pub levels-rest : (k : ℕ) → i ≤ k → getD levels′ k 0 ≡ getD levels k 0
   pub others-is : (j : ℕ) → j < length others′ → getD others′ j 0 ≡ count (length kept) (λ k. joined t w k j && marked kept′ k)
+
+-- the clearance graph of n operators and m rides that a table by operator holds
+abbrev pub table-graph : ℕ → ℕ → List ℕ → Graph
+table-graph n m t = record { operators = n; rides = m; cleared = joined t 60 }
+
+-- the set of the nodes kept, of n operators and the rides
+unfoldable pub kept-set : ℕ → List ℕ → List ℕ → ℕ → Bool
+kept-set n operators rides x = elim (ltb x n) [ true ↦ marked operators x | false ↦ marked rides (x - n) ]
+
+-- the work lists of a row: for each side who is kept and the degrees inside the nodes kept, and the row's levels
+pub record Work : Type 0 where
+  pub operators : List ℕ
+  pub operator-degrees : List ℕ
+  pub rides : List ℕ
+  pub ride-degrees : List ℕ
+  pub levels : List ℕ
+
+abbrev pub work : List ℕ → List ℕ → List ℕ → List ℕ → List ℕ → Work
+work operators operator-degrees rides ride-degrees levels =
+    record { operators = operators; operator-degrees = operator-degrees; rides = rides; ride-degrees = ride-degrees; levels = levels }
+
+-- the work lists fit n operators and m rides, and so do the two tables, which hold the same clearances
+pub record Fits (n m : ℕ) (by-operator by-ride : List ℕ) (w : Work) : Type 0 where
+  pub operators : length (w .operators) ≡ n
+  pub operator-degrees : length (w .operator-degrees) ≡ n
+  pub rides : length (w .rides) ≡ m
+  pub ride-degrees : length (w .ride-degrees) ≡ m
+  pub levels : length (w .levels) ≡ n + m
+  pub by-operator-bits : Table (joined by-operator 60) n m 60 by-operator
+  pub by-ride-bits : Table (λ v u. joined by-operator 60 u v) m n 200 by-ride
+
+-- on the way from cover (α, β - 1) to cover (α, β): the one lies around the nodes kept and the other inside them, degrees are those
+-- inside the nodes kept, and whoever is removed has its level
+pub record Raising (g : Graph) (α β : ℕ) (w : Work) : Type 0 where
+  pub operator-degrees : (u : ℕ) → u < g .operators → getD (w .operator-degrees) u 0 ≡ count (g .rides) (λ v. g .cleared u v && marked (w .rides) v)
+  pub ride-degrees : (v : ℕ) → v < g .rides → getD (w .ride-degrees) v 0 ≡ count (g .operators) (λ u. g .cleared u v && marked (w .operators) u)
+  pub holds : Inside g (marked (cover g α β)) (kept-set (g .operators) (w .operators) (w .rides))
+  pub within : 2 ≤ β → Inside g (kept-set (g .operators) (w .operators) (w .rides)) (marked (cover g α (β - 1)))
+  pub levels : (x : ℕ) → x < nodes g → (T (kept-set (g .operators) (w .operators) (w .rides) x) → ⊥) → getD (w .levels) x 0 ≡ level g α x
+
+-- nobody kept falls short of (α, β)
+pub record Settled (g : Graph) (α β : ℕ) (w : Work) : Type 0 where
+  pub operators : (u : ℕ) → u < g .operators → T (marked (w .operators) u) → α ≤ getD (w .operator-degrees) u 0
+  pub rides : (v : ℕ) → v < g .rides → T (marked (w .rides) v) → β ≤ getD (w .ride-degrees) v 0
+
+-- one round, which removed r operators: where it removed none, nobody falls short any more
+pub record Rounded (g : Graph) (α β : ℕ) (operators : List ℕ) (r : ℕ) (w : Work) : Type 0 where
+  pub raising : Raising g α β w
+  pub fewer : count (g .operators) (marked (w .operators)) + r ≡ count (g .operators) (marked operators)
+  pub settled : r ≡ 0 → Settled g α β w

@@ -3,7 +3,7 @@ ghost use mathlib.Core.Path.{_≡_};
 ghost use mathlib.Core.List.{List};
 ghost use Prim.Native.Nat.{ℕ, _+_, _-_, _*_, _<_, _≤_};
 ghost use lib.ListN.{length, getD, set};
-ghost use Rattle.levels.specs.Row.{Side, Visited, Swept};
+ghost use Rattle.levels.specs.Row.{Side, Visited, Swept, Work, work, table-graph, Fits, Raising, Settled, Rounded};
 
 // Subtracts a row of a table from the degrees.
 fn subtract(degrees: &mut [u8], row: &[u8])
@@ -70,4 +70,80 @@ fn sweep(
         i += 1;
     }
     removed
+}
+
+// Sweeps the rides and then the operators once.
+fn round(
+    operators: &mut [u8],
+    operator_degrees: &mut [u8],
+    rides: &mut [u8],
+    ride_degrees: &mut [u8],
+    row: &mut [u16],
+    by_operator: &[u8],
+    by_ride: &[u8],
+    alpha: u8,
+    beta: u8,
+) -> usize
+    requires { ⌜ (1 ≤ alpha) × (1 ≤ beta) × Fits (length (now operators)) (length (now rides)) (now «by_operator») (now «by_ride») (work (now operators) (now «operator_degrees») (now rides) (now «ride_degrees») (now row)) ⌝ }
+    requires { ⌜ Raising (table-graph (length (now operators)) (length (now rides)) (now «by_operator»)) alpha beta (work (now operators) (now «operator_degrees») (now rides) (now «ride_degrees») (now row)) ⌝ }
+    ensures { λ r. ⌜ Rounded (table-graph (length (now (operators .entry))) (length (now (rides .entry))) (now («by_operator» .entry))) alpha beta (now (operators .entry)) r (work (now (operators .exit)) (now («operator_degrees» .exit)) (now (rides .exit)) (now («ride_degrees» .exit)) (now (row .exit))) ⌝ }
+{
+    let n = operators.len();
+    let end = n + rides.len();
+    let level = (beta - 1) as u16;
+    sweep(
+        rides,
+        ride_degrees,
+        beta,
+        &mut row[n..end],
+        level,
+        operator_degrees,
+        by_ride,
+        200,
+    );
+    sweep(
+        operators,
+        operator_degrees,
+        alpha,
+        &mut row[0..n],
+        level,
+        ride_degrees,
+        by_operator,
+        60,
+    )
+}
+
+// Removes whoever falls short of (alpha, beta), until nobody does; the level of those removed is beta - 1.
+fn settle(
+    operators: &mut [u8],
+    operator_degrees: &mut [u8],
+    rides: &mut [u8],
+    ride_degrees: &mut [u8],
+    row: &mut [u16],
+    by_operator: &[u8],
+    by_ride: &[u8],
+    alpha: u8,
+    beta: u8,
+)
+    requires { ⌜ (1 ≤ alpha) × (1 ≤ beta) × Fits (length (now operators)) (length (now rides)) (now «by_operator») (now «by_ride») (work (now operators) (now «operator_degrees») (now rides) (now «ride_degrees») (now row)) ⌝ }
+    requires { ⌜ Raising (table-graph (length (now operators)) (length (now rides)) (now «by_operator»)) alpha beta (work (now operators) (now «operator_degrees») (now rides) (now «ride_degrees») (now row)) ⌝ }
+    ensures { λ _. ⌜ Raising (table-graph (length (now (operators .entry))) (length (now (rides .entry))) (now («by_operator» .entry))) alpha beta (work (now (operators .exit)) (now («operator_degrees» .exit)) (now (rides .exit)) (now («ride_degrees» .exit)) (now (row .exit))) × Settled (table-graph (length (now (operators .entry))) (length (now (rides .entry))) (now («by_operator» .entry))) alpha beta (work (now (operators .exit)) (now («operator_degrees» .exit)) (now (rides .exit)) (now («ride_degrees» .exit)) (now (row .exit))) ⌝ }
+{
+    loop {
+        if round(
+            operators,
+            operator_degrees,
+            rides,
+            ride_degrees,
+            row,
+            by_operator,
+            by_ride,
+            alpha,
+            beta,
+        )
+            == 0
+        {
+            return;
+        }
+    }
 }

@@ -8,7 +8,7 @@ use native.Mathlib.Nat.{suc-mul, add-zero}
 use native.Mathlib.Numerals.{add-one}
 use native.Mathlib.Omega.{arith}
 use native.Mathlib.Decide.{decLt, decLe, ℕ-discrete}
-use lib.Dec.{T, ltb, ltb→lt, lt→ltb}
+use lib.Dec.{T, ltb, eqb, ltb→lt, lt→ltb}
 use borrow.Author.Tests.{lt-ltb, le-ltb}
 use lib.Arith.{digits-lt}
 use lib.ListN.{length, getD, length-append, List·getD-append}
@@ -45,6 +45,11 @@ and-right false b t = absurd t
 pub and-both : (a b : Bool) → T a → T b → T (a && b)
 and-both true b s t = t
 and-both false b s t = absurd s
+
+-- a mark made of a test
+pub bit-test : (b : Bool) → eqb (bit b) 1 ≡ b
+bit-test true = refl
+bit-test false = refl
 
 pub bit-le : (b : Bool) → bit b ≤ 1
 bit-le true = omega arith
@@ -140,6 +145,12 @@ module _ (p q : ℕ → Bool) where
             )
         | no d ↦ omega (arith, count-less x k (λ y l. f y (omega arith)) (omega arith) t n, bit-mono (q k) (p k) (f k (omega arith)))
       ]
+
+-- where each number that passes r passes one of p and q
+pub count-add : (p q r : ℕ → Bool) (k : ℕ) → ((y : ℕ) → y < k → bit (p y) + bit (q y) ≡ bit (r y)) → count k p + count k q ≡ count k r
+unfolding count
+count-add p q r zero f = refl
+count-add p q r (suc k) f = omega (arith, count-add p q r k (λ y h. f y (omega arith)), f k (omega arith))
 
 -- ---- the lowest
 

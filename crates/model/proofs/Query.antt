@@ -1,6 +1,6 @@
 -- Demand 2 for queries: on the index of a pair table a query's marks are the (α, β)-core of Definition 2.1. Assumes nothing.
-use mathlib.Core.Path.{_≡_, refl, sym, _∙_, ap, subst}
-use mathlib.Core.Bool.{Bool, true, false, _&&_}
+use mathlib.Core.Path.{_≡_, sym, _∙_, ap, subst}
+use mathlib.Core.Bool.{Bool, _&&_}
 use mathlib.Core.List.{List}
 use Prim.Native.Nat.{ℕ, _+_, _-_, _*_, _≤_, _<_}
 use native.Mathlib.Omega.{arith}
@@ -13,15 +13,10 @@ use Rattle.model.specs.Graph.{Graph, nodes, Inside, Meets, limits, Core,
 use Rattle.model.specs.Layout.{mark-places, graph}
 use Rattle.model.specs.Calls.{query-marks}
 use Rattle.model.specs.Demand.{QueryIsCore}
-use Rattle.model.proofs.Count.{by-test, test-ext, and-left, and-right, and-both, getD-values}
+use Rattle.model.proofs.Count.{bit-test, test-ext, and-left, and-right, and-both, getD-values}
 use Rattle.model.proofs.Peel.{degree-mono}
 use Rattle.model.proofs.Cover.{cover-core, cover-low-α}
 use Rattle.model.proofs.Level.{level-largest, level-in, level-place}
-
--- a mark made of a test
-bit-test : (b : Bool) → eqb (bit b) 1 ≡ b
-bit-test true = refl
-bit-test false = refl
 
 -- a set that agrees with the core on the nodes is the core
 core-ext : (g : Graph) (α β : ℕ) (s t : ℕ → Bool) → ((x : ℕ) → x < nodes g → s x ≡ t x) → Core g α β s → Core g α β t

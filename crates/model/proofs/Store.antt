@@ -1,11 +1,11 @@
 -- Lists as loops and calls leave them: values stored place by place, and a part that is lent. Assumes nothing.
-use mathlib.Core.Path.{_≡_, _∙_}
-use mathlib.Core.List.{List}
+use mathlib.Core.Path.{_≡_, _∙_, subst}
+use mathlib.Core.List.{List, _++_}
 use Prim.Native.Nat.{ℕ, _+_, _-_, _≤_, _<_}
 use native.Mathlib.Omega.{arith}
 use native.Mathlib.Decide.{decLt}
-use lib.ListN.{length, getD, set, take, drop, length-take, length-drop}
-use lib.Seq.{getD-set-same, getD-set-other, getD-take, getD-drop}
+use lib.ListN.{length, getD, set, take, drop, length-take, length-drop, List·getD-append}
+use lib.Seq.{getD-set-same, getD-set-other, getD-take, getD-drop, length-take-le, getD-append-add}
 
 -- a loop stores f 0, f 1, .. : what holds behind the place i and ahead of it after one store
 module _ (f : ℕ → ℕ) (l₀ l : List ℕ) (i v : ℕ) (fits : i < length l) (value : v ≡ f i) where
@@ -26,3 +26,22 @@ module _ (l : List ℕ) (a b : ℕ) (inside : a + b ≤ length l) where
 
   pub part-at : (j d : ℕ) → j < b → getD (take (a + b - a) (drop a l)) j d ≡ getD l (a + j) d
   part-at j d h = getD-take (a + b - a) (drop a l) j d (omega arith) ∙ getD-drop a l j d
+
+-- a list whose part from a on is replaced by ys, and one whose first words are
+module _ (l ys zs : List ℕ) (a : ℕ) (inside : a ≤ length l) where
+  pub put-before : (x d : ℕ) → x < a → getD (take a l ++ (ys ++ zs)) x d ≡ getD l x d
+  put-before x d h = List·getD-append (take a l) (ys ++ zs) d x (omega (arith, length-take-le a l inside)) ∙ getD-take a l x d h
+
+  pub put-at : (j d : ℕ) → j < length ys → getD (take a l ++ (ys ++ zs)) (a + j) d ≡ getD ys j d
+  put-at j d h =
+      subst (λ (n : ℕ). getD (take a l ++ (ys ++ zs)) (n + j) d ≡ getD ys j d) (length-take-le a l inside)
+      (getD-append-add (take a l) (ys ++ zs) j d ∙ List·getD-append ys zs d j h)
+
+module _ (l ys : List ℕ) (a : ℕ) (long : length ys ≡ a) where
+  pub front-at : (j d : ℕ) → j < a → getD (ys ++ drop a l) j d ≡ getD ys j d
+  front-at j d h = List·getD-append ys (drop a l) d j (omega arith)
+
+  pub front-after : (j d : ℕ) → getD (ys ++ drop a l) (a + j) d ≡ getD l (a + j) d
+  front-after j d =
+      subst (λ (n : ℕ). getD (ys ++ drop a l) (n + j) d ≡ getD l (a + j) d) long
+      (getD-append-add ys (drop a l) j d ∙ getD-drop a l j d)
