@@ -371,3 +371,18 @@ module _ (n m : ℕ) (t t′ : List ℕ) (α β : ℕ) (a : 1 ≤ α) (b : 1 ≤
           (λ v h. part-at (w .levels) n m inside v 0 h)
           (λ x h. put-before (w .levels) part _ n (omega (arith, inside)) x 0 h)
           (λ v h. put-at (w .levels) part _ n (omega (arith, inside)) v 0 (omega (arith, part-m)))))
+
+-- ---- lists of the same lengths
+
+module _ (n m : ℕ) (t t′ : List ℕ) (w w′ : Work) (fits : Fits n m t t′ w) where
+  pub fits-again : length (w′ .operators) ≡ length (w .operators) → length (w′ .operator-degrees) ≡ length (w .operator-degrees) → length (w′ .rides) ≡ length (w .rides) → length (w′ .ride-degrees) ≡ length (w .ride-degrees) → length (w′ .levels) ≡ length (w .levels) → Fits n m t t′ w′
+  fits-again o od r rd l =
+      record {
+        operators = o ∙ fits .operators;
+        operator-degrees = od ∙ fits .operator-degrees;
+        rides = r ∙ fits .rides;
+        ride-degrees = rd ∙ fits .ride-degrees;
+        levels = l ∙ fits .levels;
+        by-operator-bits = fits .by-operator-bits;
+        by-ride-bits = fits .by-ride-bits;
+      }
