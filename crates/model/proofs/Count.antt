@@ -1,7 +1,7 @@
 -- Laws of tests, of counting, of the lowest number that passes, and of lists of values. Assumes nothing.
 use mathlib.Core.Path.{_≡_, refl, sym, ap, ap₂, _∙_, subst}
 use mathlib.Core.Logic.{_≢_}
-use mathlib.Core.Bool.{Bool, true, false, _&&_, not}
+use mathlib.Core.Bool.{Bool, true, false, _&&_, _||_, not}
 use mathlib.Core.List.{List, [], _∷_, _++_}
 use Prim.Native.Nat.{ℕ, zero, suc, _+_, _*_, _≤_, _<_}
 use native.Mathlib.Nat.{suc-mul, add-zero}
@@ -45,6 +45,19 @@ and-right false b t = absurd t
 pub and-both : (a b : Bool) → T a → T b → T (a && b)
 and-both true b s t = t
 and-both false b s t = absurd s
+
+pub or-left : (a b : Bool) → T a → T (a || b)
+or-left true b t = tt
+or-left false b t = absurd t
+
+pub or-right : (a b : Bool) → T b → T (a || b)
+or-right true b t = tt
+or-right false b t = t
+
+-- what follows from each of two tests follows from one of them
+pub or-cases {ℓ} : {C : Type ℓ} (a b : Bool) → T (a || b) → (T a → C) → (T b → C) → C
+or-cases true b t f g = f tt
+or-cases false b t f g = g t
 
 -- a mark made of a test
 pub bit-test : (b : Bool) → eqb (bit b) 1 ≡ b

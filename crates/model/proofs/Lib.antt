@@ -5,4 +5,5 @@ pub mod Cover
 pub mod Level
 pub mod Change
 pub mod Query
+pub mod Pairs
 pub mod Samples
