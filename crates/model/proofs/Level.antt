@@ -10,7 +10,7 @@ use lib.ListN.{getD}
 use Rattle.model.specs.Count.{count, rows}
 use Rattle.model.specs.Graph.{Graph, nodes, degree, everybody, Inside, Meets, limits, marked, cover, level-to, level, index-of}
 use Rattle.model.specs.Demand.{CoverLaws, changed, LevelLaws}
-use Rattle.model.proofs.Count.{by-test, test-true, test-false, and-left, and-right, and-both, count-mono, getD-rows}
+use Rattle.model.proofs.Count.{by-test, test-true, test-false, and-left, and-right, and-both, count-mono, getD-rows, rows-ext}
 use Rattle.model.proofs.Peel.{degree-operator, degree-ride, degree-mono}
 use Rattle.model.proofs.Cover.{limits-operator, limits-ride, cover-core, cover-holds, cover-operator, cover-low-β, cover-laws}
 
@@ -131,6 +131,12 @@ level-same g c same α x h =
       level-more g c (λ u v k l t. subst T (same u v k l) t) α x h,
       level-more (changed g c) (g .cleared) (λ u v k l t. subst T (sym (same u v k l)) t) α x h,
     )
+
+-- so does the index
+pub index-same : (g : Graph) (c : ℕ → ℕ → Bool) → ((u v : ℕ) → u < g .operators → v < g .rides → g .cleared u v ≡ c u v) → index-of (changed g c) ≡ index-of g
+unfolding index-of
+index-same g c same =
+    rows-ext (nodes g) (λ (r x : ℕ). level (changed g c) (suc r) x) (λ (r x : ℕ). level g (suc r) x) (g .rides) (λ r x k h. level-same g c same (suc r) x h)
 
 pub level-place : (g : Graph) (α x : ℕ) → 1 ≤ α → α ≤ g .rides → x < nodes g → getD (index-of g) ((α - 1) * nodes g + x) 0 ≡ level g α x
 unfolding index-of

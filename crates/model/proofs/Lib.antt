@@ -6,4 +6,6 @@ pub mod Level
 pub mod Change
 pub mod Query
 pub mod Pairs
+pub mod Refusal
+pub mod Taken
 pub mod Samples

@@ -10,15 +10,15 @@ use native.Mathlib.Decide.{decLt, ℕ-discrete}
 use lib.Dec.{T, ltb, leb, eqb, ltb→lt, lt→ltb, leb→le, le→leb, eqb→eq, eqb-refl, T-not, not-T}
 use lib.Arith.{digits-lt, digits-div, digits-mod}
 use lib.ListN.{length, getD, take, replicate, length-append, length-map, length-replicate, List·getD-append}
-use lib.Seq.{getD-append-seam, take-suc}
+use lib.Seq.{getD-append-seam, take-suc, ext-getD}
 use Rattle.model.specs.declared.Head.{Head}
-use Rattle.model.specs.Count.{bit, count, values, passing}
+use Rattle.model.specs.Count.{bit, count, values, rows, passing}
 use Rattle.model.specs.Graph.{Graph}
 use Rattle.model.specs.Layout.{pair-at, listed, graph}
 use Rattle.model.specs.Refusal.{before, unordered, out-of-range, refused-5}
 use Rattle.model.specs.Message.{pair-numbers, padded}
 use Rattle.model.specs.Demand.{changed}
-use Rattle.model.proofs.Count.{by-test, test-true, test-false, test-ext, and-left, and-right, and-both, or-left, or-right, or-cases, count-le, some-holds, some-witness, length-values, values-ext}
+use Rattle.model.proofs.Count.{by-test, test-true, test-false, test-ext, and-left, and-right, and-both, or-left, or-right, or-cases, count-le, some-holds, some-witness, length-values, values-ext, length-rows, getD-rows}
 
 -- ---- the numbers that pass a test
 
@@ -196,6 +196,15 @@ number-before b u v u′ v′ l h =
 pub number-same : (b u v u′ v′ : ℕ) → v < b → v′ < b → u * b + v ≡ u′ * b + v′ → (u ≡ u′) × (v ≡ v′)
 number-same b u v u′ v′ l l′ e =
     (sym (digits-div u l) ∙ ap (λ (x : ℕ). x / b) e ∙ digits-div u′ l′, sym (digits-mod u l) ∙ ap (λ (x : ℕ). x % b) e ∙ digits-mod u′ l′)
+
+-- a list with these values at the pairs' places, and no others, is made of these rows
+pub rows-only : (k w : ℕ) (f : ℕ → ℕ → ℕ) (l : List ℕ) → length l ≡ k * w → ((i j : ℕ) → i < k → j < w → getD l (i * w + j) 0 ≡ f i j) → l ≡ rows k w f
+rows-only k w f l e s =
+    ext-getD 0 l (rows k w f) (e ∙ sym (length-rows w f k))
+    (λ x h. let b : x < k * w = omega arith in
+    let i = number-operator k w x b in
+    let j = number-ride k w x b in
+    subst (λ (z : ℕ). getD l z 0 ≡ getD (rows k w f) z 0) (div-add-mod' x w) (s (x / w) (x % w) i j ∙ sym (getD-rows w f k (x / w) (x % w) 0 i j)))
 
 -- whether the pair of a number is cleared
 abbrev pub cleared-number : Graph → ℕ → Bool

@@ -1,0 +1,230 @@
+-- Laws of the numbers 1 to 10: the lowest that applies, boards to which 1 to 6 do not apply, and valid messages. Assumes nothing.
+use mathlib.Core.Path.{_≡_, refl, sym, ap, _∙_, subst}
+use mathlib.Core.Bool.{Bool, true, false, _&&_, _||_, not}
+use mathlib.Core.List.{List, [], _∷_, _++_}
+use Prim.Native.Nat.{ℕ, zero, suc, _+_, _*_, _≤_, _<_}
+use native.Mathlib.Omega.{arith}
+use native.Mathlib.Decide.{decLt, decLe, ℕ-discrete}
+use lib.Dec.{T, ltb, leb, eqb, ltb→lt, lt→ltb, leb→le, le→leb, eqb→eq, eqb-refl, T-not, not-T}
+use lib.ListN.{length, getD}
+use Rattle.model.specs.declared.Head.{Head}
+use Rattle.model.specs.declared.Message.{Message}
+use Rattle.model.specs.Layout.{Board, pair-places, index-places, graph}
+use Rattle.model.specs.Refusal.{refused-1, refused-2, refused-3, refused-4, refused-5, refused-6, refused-7, refused-8, refused-9, refused-10, out-of-range, stamp-place, lowest-number, board-short, table-cases, message-refusal, list-refusal}
+use Rattle.model.specs.Message.{cleared-on}
+use Rattle.model.proofs.Count.{by-test, test-true, test-false, or-left, or-right, or-cases, some-holds, some-witness}
+use Rattle.model.proofs.Pairs.{Pairs, listed-place, table-pairs, pairs-fit, pairs-accepted}
+
+-- ---- the lowest number that applies
+
+pub lowest-here : (k : ℕ) (t : Bool) (cs : List (ℕ × Bool)) → T t → lowest-number ((k, t) ∷ cs) ≡ k
+unfolding lowest-number
+lowest-here k true cs h = refl
+lowest-here k false cs h = absurd h
+
+pub lowest-skip : (k : ℕ) (t : Bool) (cs : List (ℕ × Bool)) → (T t → ⊥) → lowest-number ((k, t) ∷ cs) ≡ lowest-number cs
+unfolding lowest-number
+lowest-skip k true cs n = absurd (n tt)
+lowest-skip k false cs n = refl
+
+-- where none applies, the first does not, and none of the others
+pub lowest-none : (k : ℕ) (t : Bool) (cs : List (ℕ × Bool)) → lowest-number ((suc k, t) ∷ cs) ≡ 0 → (T t → ⊥) × (lowest-number cs ≡ 0)
+unfolding lowest-number
+lowest-none k true cs e = absurd (let z : ⊥ = omega arith in z)
+lowest-none k false cs e = (λ t. t, e)
+
+-- a number is at least its limit exactly if the test for less fails
+pub enough : (a b : ℕ) → (T (ltb a b) → ⊥) → b ≤ a
+enough a b n = elim (decLe b a) [ yes h ↦ h | no h ↦ absurd (n (lt→ltb a b (omega arith))) ]
+
+pub not-less : (a b : ℕ) → b ≤ a → T (ltb a b) → ⊥
+not-less a b h t = omega (arith, ltb→lt a b t)
+
+-- ---- 1 to 6
+
+-- a board to which 1 to 6 do not apply
+pub record Accepted (b : Board) : Type 0 where
+  pub few-operators : b .head .operators ≤ 200
+  pub few-rides : b .head .rides ≤ 60
+  pub operators : pair-places (b .head) ≤ length (b .operators)
+  pub rides : pair-places (b .head) ≤ length (b .rides)
+  pub stamps : pair-places (b .head) ≤ length (b .stamps)
+  pub index : index-places (b .head) ≤ length (b .index)
+  pub pairs : Pairs (graph (b .head) (b .operators) (b .rides)) (b .head .pairs) (b .operators) (b .rides)
+  pub stamped : (u v : ℕ) → T (cleared-on b u v) → 1 ≤ getD (b .stamps) (stamp-place (b .head) u v) 0
+
+module _ (b : Board) where
+  abbrev h : Head
+  h = b .head
+
+  -- 3, as four tests
+  pub board-long : (T (board-short b) → ⊥) → (pair-places h ≤ length (b .operators)) × (pair-places h ≤ length (b .rides)) × (pair-places h ≤ length (b .stamps)) × (index-places h ≤ length (b .index))
+  board-long n =
+      let o : Bool = refused-3 (pair-places h) (b .operators) in
+      let r : Bool = refused-3 (pair-places h) (b .rides) in
+      let s : Bool = refused-3 (pair-places h) (b .stamps) in
+      let i : Bool = refused-3 (index-places h) (b .index) in (
+        enough (length (b .operators)) (pair-places h) (λ t. n (or-left (o || r || s) i (or-left (o || r) s (or-left o r t)))),
+        enough (length (b .rides)) (pair-places h) (λ t. n (or-left (o || r || s) i (or-left (o || r) s (or-right o r t)))),
+        enough (length (b .stamps)) (pair-places h) (λ t. n (or-left (o || r || s) i (or-right (o || r) s t))),
+        enough (length (b .index)) (index-places h) (λ t. n (or-right (o || r || s) i t)),
+      )
+
+  pub long-board : pair-places h ≤ length (b .operators) → pair-places h ≤ length (b .rides) → pair-places h ≤ length (b .stamps) → index-places h ≤ length (b .index) → T (board-short b) → ⊥
+  long-board p q r s t =
+      or-cases (refused-3 (pair-places h) (b .operators) || refused-3 (pair-places h) (b .rides) || refused-3 (pair-places h) (b .stamps)) (refused-3 (index-places h) (b .index)) t
+      (λ k. or-cases (refused-3 (pair-places h) (b .operators) || refused-3 (pair-places h) (b .rides)) (refused-3 (pair-places h) (b .stamps)) k
+      (λ l. or-cases (refused-3 (pair-places h) (b .operators)) (refused-3 (pair-places h) (b .rides)) l (not-less (length (b .operators)) (pair-places h) p) (not-less (length (b .rides)) (pair-places h) q))
+      (not-less (length (b .stamps)) (pair-places h) r))
+      (not-less (length (b .index)) (index-places h) s)
+
+  -- the test of 6 at place i
+  abbrev unstamped : ℕ → Bool
+  unstamped i = eqb (getD (b .stamps) (stamp-place h (getD (b .operators) i 0) (getD (b .rides) i 0)) 0) 0
+
+  -- the numbers 1 to 6 of a board, and those behind them
+  abbrev six : Bool → List (ℕ × Bool) → List (ℕ × Bool)
+  six short cs = table-cases h short (b .operators) (b .rides) ++ (6, refused-6 b) ∷ cs
+
+  pub accepted-none : (short : Bool) (cs : List (ℕ × Bool)) → (T (board-short b) → T short) → lowest-number (six short cs) ≡ 0 → Accepted b × (lowest-number cs ≡ 0)
+  unfolding refused-6
+  accepted-none short cs s e =
+      let n1 = lowest-none 0 (refused-1 h) _ e in
+      let n2 = lowest-none 1 (refused-2 h) _ (n1 .1) in
+      let n3 = lowest-none 2 short _ (n2 .1) in
+      let n4 = lowest-none 3 (refused-4 h) _ (n3 .1) in
+      let n5 = lowest-none 4 (refused-5 h (b .operators) (b .rides)) _ (n4 .1) in
+      let n6 = lowest-none 5 (refused-6 b) cs (n5 .1) in
+      let long = board-long (λ t. n3 .0 (s t)) in (
+        record {
+          few-operators = enough 200 (h .operators) (n1 .0);
+          few-rides = enough 60 (h .rides) (n2 .0);
+          operators = long .0;
+          rides = long .1;
+          stamps = long .2;
+          index = long .3;
+          pairs = table-pairs h (b .operators) (b .rides) (n5 .0);
+          stamped = λ u v t.
+              let w = listed-place (h .pairs) (b .operators) (b .rides) u v t in
+              let at : ℕ → ℕ → ℕ = λ x y. getD (b .stamps) (stamp-place h x y) 0 in
+              elim (decLe 1 (at u v)) [
+                | yes l ↦ l
+                | no l ↦ absurd (n6 .0 (some-holds unstamped (h .pairs) (w .0) (w .1) (subst (λ (x : ℕ). T (eqb x 0)) (let z : 0 ≡ at (getD (b .operators) (w .0) 0) (getD (b .rides) (w .0) 0) = omega (arith, ap (λ (x : ℕ). at x v) (w .2), ap (λ (y : ℕ). at (getD (b .operators) (w .0) 0) y) (w .3)) in z) (eqb-refl 0))))
+              ];
+        },
+        n6 .1,
+      )
+
+  accepted-stamped : Accepted b → T (refused-6 b) → ⊥
+  unfolding refused-6
+  accepted-stamped a t =
+      let w = some-witness unstamped (h .pairs) t in
+      let u : ℕ = getD (b .operators) (w .0) 0 in
+      let v : ℕ = getD (b .rides) (w .0) 0 in
+      omega (arith, a .stamped u v (a .pairs .holds (w .0) (w .1)), eqb→eq (getD (b .stamps) (stamp-place h u v) 0) 0 (w .2))
+
+  -- on such a board the numbers behind 6 decide
+  pub accepted-skip : (short : Bool) (cs : List (ℕ × Bool)) → Accepted b → (T short → ⊥) → lowest-number (six short cs) ≡ lowest-number cs
+  accepted-skip short cs a n =
+      lowest-skip 1 (refused-1 h) _ (not-less 200 (h .operators) (a .few-operators)) ∙
+      lowest-skip 2 (refused-2 h) _ (not-less 60 (h .rides) (a .few-rides)) ∙
+      lowest-skip 3 short _ n ∙
+      lowest-skip 4 (refused-4 h) _ (not-less (pair-places h) (h .pairs) (pairs-fit h (b .operators) (b .rides) (cleared-on b) (a .pairs))) ∙
+      lowest-skip 5 (refused-5 h (b .operators) (b .rides)) _ (pairs-accepted h (b .operators) (b .rides) (cleared-on b) (a .pairs)) ∙
+      lowest-skip 6 (refused-6 b) cs (accepted-stamped a)
+
+  pub accepted-long : Accepted b → T (board-short b) → ⊥
+  accepted-long a = long-board (a .operators) (a .rides) (a .stamps) (a .index)
+
+  -- a lent part that is too short gives 3, where the sizes are in bounds
+  pub short-three : (short : Bool) (cs : List (ℕ × Bool)) → h .operators ≤ 200 → h .rides ≤ 60 → T short → lowest-number (six short cs) ≡ 3
+  short-three short cs o r t =
+      lowest-skip 1 (refused-1 h) _ (not-less 200 (h .operators) o) ∙
+      lowest-skip 2 (refused-2 h) _ (not-less 60 (h .rides) r) ∙
+      lowest-here 3 short _ t
+
+-- ---- 7 to 10
+
+-- a valid message: 7, 8 and 9 do not apply
+pub record Valid (h : Head) (m : Message) : Type 0 where
+  pub kind-low : 1 ≤ m .kind
+  pub kind-high : m .kind ≤ 2
+  pub operator : m .operator < h .operators
+  pub ride : m .ride < h .rides
+  pub stamp : 1 ≤ m .stamp
+
+module _ (h : Head) (m : Message) where
+  pub valid-kind : 1 ≤ m .kind → m .kind ≤ 2 → T (refused-7 m) → ⊥
+  valid-kind l u t =
+      T-not (eqb (m .kind) 1 || eqb (m .kind) 2) t
+      (elim (ℕ-discrete (m .kind) 1) [
+        | yes e ↦ or-left (eqb (m .kind) 1) (eqb (m .kind) 2) (subst (λ (x : ℕ). T (eqb (m .kind) x)) e (eqb-refl (m .kind)))
+        | no n ↦ or-right (eqb (m .kind) 1) (eqb (m .kind) 2) (subst (λ (x : ℕ). T (eqb (m .kind) x)) (let e : m .kind ≡ 2 = omega arith in e) (eqb-refl (m .kind)))
+      ])
+
+  pub valid-pair : m .operator < h .operators → m .ride < h .rides → T (refused-8 h m) → ⊥
+  valid-pair o r t =
+      or-cases (leb (h .operators) (m .operator)) (leb (h .rides) (m .ride)) t
+      (λ s. let z : ⊥ = omega (arith, leb→le (h .operators) (m .operator) s) in z)
+      (λ s. let z : ⊥ = omega (arith, leb→le (h .rides) (m .ride) s) in z)
+
+  pub valid-stamp : 1 ≤ m .stamp → T (refused-9 (m .stamp)) → ⊥
+  valid-stamp s t = omega (arith, eqb→eq (m .stamp) 0 t)
+
+  pub tests-valid : (T (refused-7 m) → ⊥) → (T (refused-8 h m) → ⊥) → (T (refused-9 (m .stamp)) → ⊥) → Valid h m
+  tests-valid n7 n8 n9 =
+      let kind : (C : Type 0) → (m .kind ≡ 1 → C) → (m .kind ≡ 2 → C) → C = λ C f g. by-test (eqb (m .kind) 1) (λ t. f (eqb→eq (m .kind) 1 t)) (λ o. by-test (eqb (m .kind) 2) (λ t. g (eqb→eq (m .kind) 2 t)) (λ p. absurd (n7 (not-T (eqb (m .kind) 1 || eqb (m .kind) 2) (λ t. or-cases (eqb (m .kind) 1) (eqb (m .kind) 2) t o p))))) in
+      record {
+        kind-low = kind (1 ≤ m .kind) (λ e. omega arith) (λ e. omega arith);
+        kind-high = kind (m .kind ≤ 2) (λ e. omega arith) (λ e. omega arith);
+        operator = elim (decLt (m .operator) (h .operators)) [ yes l ↦ l | no l ↦ absurd (n8 (or-left (leb (h .operators) (m .operator)) (leb (h .rides) (m .ride)) (le→leb (h .operators) (m .operator) (omega arith)))) ];
+        ride = elim (decLt (m .ride) (h .rides)) [ yes l ↦ l | no l ↦ absurd (n8 (or-right (leb (h .operators) (m .operator)) (leb (h .rides) (m .ride)) (le→leb (h .rides) (m .ride) (omega arith)))) ];
+        stamp = elim (decLe 1 (m .stamp)) [ yes l ↦ l | no l ↦ absurd (n9 (subst (λ (x : ℕ). T (eqb x 0)) (let e : 0 ≡ m .stamp = omega arith in e) (eqb-refl 0))) ];
+      }
+
+-- ---- message and list
+
+module _ (b : Board) (m : Message) where
+  abbrev four : List (ℕ × Bool)
+  four = (7, refused-7 m) ∷ (8, refused-8 (b .head) m) ∷ (9, refused-9 (m .stamp)) ∷ (10, refused-10 b m) ∷ []
+
+  -- a message that is taken: nothing applies
+  pub taken-none : message-refusal b m ≡ 0 → Accepted b × Valid (b .head) m × (T (refused-10 b m) → ⊥)
+  unfolding message-refusal
+  taken-none e =
+      let a = accepted-none b (board-short b) four (λ t. t) e in
+      let n7 = lowest-none 6 (refused-7 m) _ (a .1) in
+      let n8 = lowest-none 7 (refused-8 (b .head) m) _ (n7 .1) in
+      let n9 = lowest-none 8 (refused-9 (m .stamp)) _ (n8 .1) in
+      let n10 = lowest-none 9 (refused-10 b m) [] (n9 .1) in
+      (a .0, tests-valid (b .head) m (n7 .0) (n8 .0) (n9 .0), n10 .0)
+
+  -- on an accepted board 7 to 10 decide
+  pub message-accepted : Accepted b → message-refusal b m ≡ lowest-number four
+  unfolding message-refusal
+  message-accepted a = accepted-skip b (board-short b) four a (accepted-long b a)
+
+  -- a valid message on an accepted board is refused exactly if 10 applies
+  pub message-valid : Accepted b → Valid (b .head) m → message-refusal b m ≡ lowest-number ((10, refused-10 b m) ∷ [])
+  message-valid a v =
+      message-accepted a ∙
+      lowest-skip 7 (refused-7 m) _ (valid-kind (b .head) m (v .kind-low) (v .kind-high)) ∙
+      lowest-skip 8 (refused-8 (b .head) m) _ (valid-pair (b .head) m (v .operator) (v .ride)) ∙
+      lowest-skip 9 (refused-9 (m .stamp)) _ (valid-stamp (b .head) m (v .stamp))
+
+module _ (b : Board) (messages : ℕ) (answers : List ℕ) where
+  pub list-none : list-refusal b messages answers ≡ 0 → Accepted b × (messages ≤ length answers)
+  unfolding list-refusal
+  list-none e =
+      let s : Bool = refused-3 messages answers in
+      let a = accepted-none b (board-short b || s) [] (or-left (board-short b) s) e in
+      let n1 = lowest-none 0 (refused-1 (b .head)) _ e in
+      let n2 = lowest-none 1 (refused-2 (b .head)) _ (n1 .1) in
+      let n3 = lowest-none 2 (board-short b || s) _ (n2 .1) in
+      (a .0, enough (length answers) messages (λ t. n3 .0 (or-right (board-short b) s t)))
+
+  pub list-accepted : Accepted b → messages ≤ length answers → list-refusal b messages answers ≡ 0
+  unfolding list-refusal lowest-number
+  list-accepted a l =
+      accepted-skip b (board-short b || refused-3 messages answers) [] a
+      (λ t. or-cases (board-short b) (refused-3 messages answers) t (accepted-long b a) (not-less (length answers) messages l))
