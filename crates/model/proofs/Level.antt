@@ -132,7 +132,7 @@ level-same g c same α x h =
       level-more (changed g c) (g .cleared) (λ u v k l t. subst T (sym (same u v k l)) t) α x h,
     )
 
--- so does the index
+-- the index depends on the clearances below the sizes and on nothing else
 pub index-same : (g : Graph) (c : ℕ → ℕ → Bool) → ((u v : ℕ) → u < g .operators → v < g .rides → g .cleared u v ≡ c u v) → index-of (changed g c) ≡ index-of g
 unfolding index-of
 index-same g c same =

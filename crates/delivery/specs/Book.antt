@@ -1,0 +1,94 @@
+-- Document 01, Book: the entries, and the board worked out from them. No answer and no word of the board comes in.
+use mathlib.Core.Bool.{Bool, true, false, _&&_, _||_, not}
+use mathlib.Core.List.{List, [], _∷_, _++_, map}
+use mathlib.Core.Option.{Option, none, some}
+use Prim.Native.Nat.{ℕ, zero, suc, _+_, _/_, _%_, min}
+use lib.Dec.{ltb, eqb}
+use lib.ListN.{length, getD}
+use Rattle.model.specs.declared.Head.{Head}
+use Rattle.model.specs.declared.Message.{Message}
+use Rattle.model.specs.Count.{rows}
+use Rattle.model.specs.Graph.{Graph, index-of}
+use Rattle.model.specs.Layout.{Board, pair-places, index-places}
+use Rattle.model.specs.Refusal.{refused-7, refused-8, refused-9, later}
+use Rattle.model.specs.Message.{pair-numbers, padded}
+use Rattle.delivery.specs.Calls.{Lent, Lending, Call, sent}
+
+-- the length of what is lent of a part that has so many places
+abbrev pub lent-length : ℕ → Lent → ℕ
+lent-length places (Lent.cut n) = min n places
+lent-length places (Lent.whole more) = places + length more
+
+-- case 3, by the lengths of what is lent: a part of the board, or the answer list, is too short
+abbrev pub parts-short : Head → Lending → Bool
+parts-short h l =
+    ltb (lent-length (pair-places h) (l .operators)) (pair-places h) ||
+    ltb (lent-length (pair-places h) (l .rides)) (pair-places h) ||
+    ltb (lent-length (pair-places h) (l .stamps)) (pair-places h) ||
+    ltb (lent-length (index-places h) (l .index)) (index-places h)
+
+unfoldable pub too-short : Head → Call → Bool
+too-short h (Call.message l m) = parts-short h l
+too-short h (Call.messages l ms answers) = parts-short h l || ltb (length answers) (length ms)
+
+-- a message is valid if 7, 8 and 9 don't apply
+unfoldable pub valid : Head → Message → Bool
+valid h m = not (refused-7 m || refused-8 h m || refused-9 (m .stamp))
+
+-- the messages that are valid
+unfoldable pub valid-ones : Head → List Message → List Message
+valid-ones h [] = []
+valid-ones h (m ∷ ms) = elim (valid h m) [ true ↦ m ∷ valid-ones h ms | false ↦ valid-ones h ms ]
+
+-- the entries of a list of calls: each message of a call, but for one that isn't valid; a call with case 3 enters nothing
+unfoldable pub entries : Head → List Call → List Message
+entries h [] = []
+entries h (c ∷ cs) = elim (too-short h c) [ true ↦ [] | false ↦ valid-ones h (sent c) ] ++ entries h cs
+
+-- the entries after the build: a grant of the starting stamp for each of n listed pairs
+unfoldable pub grants : ℕ → List ℕ → List ℕ → ℕ → List Message
+grants zero operators rides start = []
+grants (suc n) operators rides start =
+    grants n operators rides start ++
+    (record { kind = 1; operator = getD operators n 0; ride = getD rides n 0; stamp = start } ∷ [])
+
+-- Book: the entries after a list of calls, from the pair table, the starting stamp and the calls; an entry is a message
+unfoldable pub book : Head → List ℕ → List ℕ → ℕ → List Call → List Message
+book h operators rides start calls = grants (h .pairs) operators rides start ++ entries h calls
+
+-- the later of an entry and the latest of others
+abbrev pub later-one : Message → Option Message → Option Message
+later-one e none = some e
+later-one e (some f) = elim (later (e .kind) (e .stamp) (f .kind) (f .stamp)) [ true ↦ some e | false ↦ some f ]
+
+-- the latest entry for the pair (u, v), if there is one
+unfoldable pub latest : List Message → ℕ → ℕ → Option Message
+latest [] u v = none
+latest (e ∷ es) u v =
+    elim (eqb (e .operator) u && eqb (e .ride) v) [ true ↦ later-one e (latest es u v) | false ↦ latest es u v ]
+
+-- a pair with this latest entry is listed exactly if that is a grant
+abbrev pub granted : Option Message → Bool
+granted none = false
+granted (some e) = eqb (e .kind) 1
+
+-- its stamp; 0 with no entry
+abbrev pub stamped : Option Message → ℕ
+stamped none = 0
+stamped (some e) = e .stamp
+
+-- the board of the sizes of h with these listed pairs and stamps: pairs in ascending order, then zeros; levels by the definition
+unfoldable pub filled : Head → (ℕ → ℕ → Bool) → (ℕ → ℕ → ℕ) → Board
+filled h clear stamp =
+    let g : Graph = record { operators = h .operators; rides = h .rides; cleared = clear } in
+    record {
+      head = record { operators = h .operators; rides = h .rides; pairs = length (pair-numbers g) };
+      operators = padded (pair-places h) (map (λ k. k / h .rides) (pair-numbers g));
+      rides = padded (pair-places h) (map (λ k. k % h .rides) (pair-numbers g));
+      stamps = rows (h .operators) (h .rides) stamp;
+      index = index-of g;
+    }
+
+-- the board worked out from a book
+unfoldable pub written : Head → List Message → Board
+written h es = filled h (λ u v. granted (latest es u v)) (λ u v. stamped (latest es u v))

@@ -1,0 +1,104 @@
+-- Demand 3, as statements: proofs/ proves each of them.
+use mathlib.Core.Path.{_≡_}
+use mathlib.Core.Logic.{_↔_}
+use mathlib.Core.Bool.{Bool, true, false}
+use mathlib.Core.List.{List, [], _∷_, _++_, List·Memᴰ}
+use mathlib.Core.Option.{Option, none, some}
+use Prim.Native.Nat.{ℕ}
+use lib.Dec.{T}
+use lib.ListN.{length, take}
+use Rattle.model.specs.declared.Head.{Head}
+use Rattle.model.specs.declared.Message.{Message}
+use Rattle.model.specs.Graph.{Graph}
+use Rattle.model.specs.Layout.{Board, over, graph}
+use Rattle.model.specs.Refusal.{later, build-refusal, message-refusal, list-refusal}
+use Rattle.model.specs.Message.{cleared-on, board-message, ListOutcome, board-messages}
+use Rattle.model.specs.Demand.{OneMove}
+use Rattle.delivery.specs.Calls.{Call, run, built-board, case, delivered}
+use Rattle.delivery.specs.Book.{too-short, valid, book, latest, written}
+
+-- Demand 3, of the whole list: for a pair table that is accepted (1 to 5 don't apply to its build), a starting stamp from 1 (nor 9),
+-- lent with any further words, and for any list of calls, the board is the one worked out from the book
+abbrev pub BoardIsBook : Type 0
+BoardIsBook =
+    (b : Board) (start : ℕ) (calls : List Call) →
+    build-refusal b start ≡ 0 →
+    run (built-board b start) calls ≡ written (b .head) (book (b .head) (b .operators) (b .rides) start calls)
+
+-- of 1 to 6 only 3 arises in the calls of a list, and exactly where a length is too short
+abbrev pub OnlyThree : Type 0
+OnlyThree =
+    (b : Board) (start : ℕ) (calls : List Call) (c : Call) →
+    build-refusal b start ≡ 0 →
+    case (run (built-board b start) calls) c ≡ elim (too-short (b .head) c) [ true ↦ 3 | false ↦ 0 ]
+
+-- e is a latest entry for the pair (u, v): one that no entry for it is later than
+pub record Latest (es : List Message) (u v : ℕ) (e : Message) : Type 0 where
+  pub entry : List·Memᴰ e es
+  pub operator : e .operator ≡ u
+  pub ride : e .ride ≡ v
+  pub last : (f : Message) → List·Memᴰ f es → f .operator ≡ u → f .ride ≡ v → T (later (f .kind) (f .stamp) (e .kind) (e .stamp)) → ⊥
+
+-- the book's latest entry is one, and where there is none the pair has no entry
+pub record LatestLaws : Type 0 where
+  pub found : (es : List Message) (u v : ℕ) (e : Message) → latest es u v ≡ some e → Latest es u v e
+  pub missing : (es : List Message) (u v : ℕ) → latest es u v ≡ none → (e : Message) → List·Memᴰ e es → e .operator ≡ u → e .ride ≡ v → ⊥
+
+-- two boards as lent to a build have the same pair table
+pub record SameTable (b b′ : Board) : Type 0 where
+  pub head : b .head ≡ b′ .head
+  pub operators : take (b .head .pairs) (b .operators) ≡ take (b .head .pairs) (b′ .operators)
+  pub rides : take (b .head .pairs) (b .rides) ≡ take (b .head .pairs) (b′ .rides)
+
+-- two lists alike in pair table, starting stamp and the set of valid messages delivered leave the same board,
+-- in whatever order, however often and however cut into calls these come
+abbrev pub AnyOrder : Type 0
+AnyOrder =
+    (b b′ : Board) (start : ℕ) (calls calls′ : List Call) →
+    build-refusal b start ≡ 0 →
+    build-refusal b′ start ≡ 0 →
+    SameTable b b′ →
+    ((m : Message) → T (valid (b .head) m) → List·Memᴰ m (delivered (built-board b start) calls) ↔ List·Memᴰ m (delivered (built-board b′ start) calls′)) →
+    run (built-board b start) calls ≡ run (built-board b′ start) calls′
+
+-- the clearance graph of a board
+abbrev pub board-graph : Board → Graph
+board-graph b = graph (b .head) (b .operators) (b .rides)
+
+-- Demand 3, its last sentence: on any board where a message is taken, how levels by the definition move
+pub record OneMessage : Type 0 where
+  -- up, where a grant adds its pair
+  pub grant : (b : Board) (m : Message) → message-refusal b m ≡ 0 → m .kind ≡ 1 → cleared-on b (m .operator) (m .ride) ≡ false →
+      OneMove (board-graph b) (board-graph (board-message b m .board)) (m .operator)
+  -- down, where a withdrawal removes it
+  pub withdrawal : (b : Board) (m : Message) → message-refusal b m ≡ 0 → m .kind ≡ 2 → cleared-on b (m .operator) (m .ride) ≡ true →
+      OneMove (board-graph (board-message b m .board)) (board-graph b) (m .operator)
+
+-- the board after messages sent one after another by message calls
+unfoldable pub board-by-calls : Board → List Message → Board
+board-by-calls b [] = b
+board-by-calls b (m ∷ ms) = board-by-calls (board-message b m .board) ms
+
+-- and their answer numbers
+unfoldable pub numbers-by-calls : Board → List Message → List ℕ
+numbers-by-calls b [] = []
+numbers-by-calls b (m ∷ ms) = board-message b m .answer .code ∷ numbers-by-calls (board-message b m .board) ms
+
+-- Message list, on any board: one that isn't refused ends as its messages sent by message calls, and so does each first part of it
+pub record ListIsCalls : Type 0 where
+  pub first-part : (b : Board) (ms rest : List Message) (answers : List ℕ) → list-refusal b (length (ms ++ rest)) answers ≡ 0 →
+      board-messages b ms answers ≡ record { code = 0; board = board-by-calls b ms; answers = over (numbers-by-calls b ms) answers }
+  pub all : (b : Board) (ms : List Message) (answers : List ℕ) → list-refusal b (length ms) answers ≡ 0 →
+      board-messages b ms answers ≡ record { code = 0; board = board-by-calls b ms; answers = over (numbers-by-calls b ms) answers }
+  -- 1 to 6 don't apply after any of its messages
+  pub keeps : (b : Board) (m : Message) (messages : ℕ) (answers : List ℕ) → list-refusal b messages answers ≡ 0 →
+      list-refusal (board-message b m .board) messages answers ≡ 0
+
+-- Demand 3, all of it
+pub record Demand3 : Type 0 where
+  pub board-is-book : BoardIsBook
+  pub only-three : OnlyThree
+  pub latest-laws : LatestLaws
+  pub any-order : AnyOrder
+  pub one-message : OneMessage
+  pub list-is-calls : ListIsCalls
