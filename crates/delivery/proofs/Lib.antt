@@ -1,1 +1,2 @@
 pub mod Latest
+pub mod Filled
