@@ -52,7 +52,7 @@ later-trans e f d t s =
 -- ---- the latest entry is one that no entry is later than
 
 -- what o says of the pair's entries: none, or that it is the latest
-abbrev Is : List Message → ℕ → ℕ → Option Message → Type 0
+abbrev pub Is : List Message → ℕ → ℕ → Option Message → Type 0
 Is es u v none = (e : Message) → List·Memᴰ e es → e .operator ≡ u → e .ride ≡ v → ⊥
 Is es u v (some e) = Latest es u v e
 
@@ -191,7 +191,7 @@ last-kind-kind k l u =
       | no n ↦ ap last-kind (ne-eqb k 1 n) ∙ (let e : 2 ≡ k = omega arith in e)
     ]
 
-valid-append : (h : Head) (es fs : List Message) → AllValid h es → AllValid h fs → AllValid h (es ++ fs)
+pub valid-append : (h : Head) (es fs : List Message) → AllValid h es → AllValid h fs → AllValid h (es ++ fs)
 valid-append h es fs a b e m = elim (List·Memᴰ·append-cases es m) [ inl i ↦ a e i | inr j ↦ b e j ]
 
 valid-single : (h : Head) (m : Message) → Valid h m → AllValid h (m ∷ [])

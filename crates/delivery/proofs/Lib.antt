@@ -1,2 +1,4 @@
 pub mod Latest
 pub mod Filled
+pub mod Lending
+pub mod Run

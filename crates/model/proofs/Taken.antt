@@ -14,7 +14,7 @@ use Rattle.model.specs.declared.Message.{Message}
 use Rattle.model.specs.Graph.{Graph, nodes, level, index-of}
 use Rattle.model.specs.Layout.{Board, pair-places, index-places, over, listed, graph, differing}
 use Rattle.model.specs.Refusal.{stamp-place, refused-10, message-refusal, list-refusal}
-use Rattle.model.specs.Message.{cleared-on, with-pair, pair-numbers, padded, board-of, MessageOutcome, graph-after, board-after, board-message}
+use Rattle.model.specs.Message.{cleared-on, with-pair, pair-numbers, padded, board-of, MessageOutcome, graph-after, board-after, board-message, in-order, board-messages}
 use Rattle.model.proofs.Count.{test-true, test-false, and-left, and-right, and-both, length-rows}
 use Rattle.model.proofs.Pairs.{Pairs, number-same, pairs-padded, pairs-listed, pairs-in-range, pairs-accepted, length-padded, table-pairs}
 use Rattle.model.proofs.Refusal.{Accepted, Valid, taken-none, list-none, list-accepted}
@@ -104,6 +104,17 @@ module _ (b : Board) (m : Message) where
       go : (n : ℕ) → message-refusal b m ≡ n → Accepted (board-message b m .board)
       go zero e = subst (λ (o : MessageOutcome). Accepted (o .board)) (sym (message-taken e)) (accepted-after a (taken-none b m e .1))
       go (suc k) e = subst (λ (o : MessageOutcome). Accepted (o .board)) (sym (message-refused k e)) a
+
+-- ---- a list: in order, or refused
+
+module _ (b : Board) (ms : List Message) (answers : List ℕ) where
+  pub list-taken : list-refusal b (length ms) answers ≡ 0 → board-messages b ms answers ≡ in-order ms 0 b answers
+  unfolding board-messages
+  list-taken e = rw (e, board-messages)
+
+  pub list-refused : (k : ℕ) → list-refusal b (length ms) answers ≡ suc k → board-messages b ms answers ≡ record { code = suc k; board = b; answers = answers }
+  unfolding board-messages
+  list-refused k e = rw (e, board-messages)
 
 -- a list that is not refused is not refused after any of its messages
 pub list-keeps : (b : Board) (m : Message) (messages : ℕ) (answers : List ℕ) → list-refusal b messages answers ≡ 0 → list-refusal (board-message b m .board) messages answers ≡ 0
