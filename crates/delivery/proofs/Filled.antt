@@ -83,13 +83,15 @@ module _ (h : Head) (c : ℕ → ℕ → Bool) (s : ℕ → ℕ → ℕ) where
     unfolding filled
     accepted-filled few few′ stamped =
         record {
-          few-operators = few;
-          few-rides = few′;
-          operators = omega (arith, length-append (filled h c s .operators) o, length-operators);
-          rides = omega (arith, length-append (filled h c s .rides) r, length-rides);
-          stamps = omega (arith, length-append (filled h c s .stamps) t, length-stamps);
-          index = omega (arith, length-append (filled h c s .index) i, length-index);
-          pairs = table-pairs (board .head) (board .operators) (board .rides) (pairs-accepted (board .head) (board .operators) (board .rides) c pairs-filled);
+          table = record {
+            few-operators = few;
+            few-rides = few′;
+            operators = omega (arith, length-append (filled h c s .operators) o, length-operators);
+            rides = omega (arith, length-append (filled h c s .rides) r, length-rides);
+            stamps = omega (arith, length-append (filled h c s .stamps) t, length-stamps);
+            index = omega (arith, length-append (filled h c s .index) i, length-index);
+            pairs = table-pairs (board .head) (board .operators) (board .rides) (pairs-accepted (board .head) (board .operators) (board .rides) c pairs-filled);
+          };
           stamped = λ u v p.
               let w = pairs-in-range (sized h c) (board .head .pairs) (board .operators) (board .rides) pairs-filled u v p in
               omega (arith, stamp-filled u v (w .0) (w .1), stamped u v (w .0) (w .1) (subst T (cleared-filled u v (w .0) (w .1)) p));

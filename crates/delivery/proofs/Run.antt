@@ -14,9 +14,9 @@ use Rattle.model.specs.Layout.{Board, pair-places, index-places}
 use Rattle.model.specs.Refusal.{refused-3, refused-7, refused-8, refused-9, refused-10, later, last-kind, lowest-number, board-short, message-refusal, list-refusal}
 use Rattle.model.specs.Message.{cleared-on, with-pair, board-after, MessageOutcome, board-message, ListOutcome, in-order, board-messages}
 use Rattle.model.proofs.Count.{by-test, test-true, test-false, or-left, or-right, or-cases}
-use Rattle.model.proofs.Refusal.{lowest-here, lowest-skip, not-less, Accepted, Valid, valid-kind, valid-pair, valid-stamp, tests-valid, board-long, short-three, taken-none, message-valid, list-accepted}
+use Rattle.model.proofs.Refusal.{lowest-here, lowest-skip, enough, Accepted, Valid, valid-kind, valid-pair, valid-stamp, tests-valid, board-long, short-three, taken-none, message-valid, list-accepted}
 use Rattle.model.proofs.Taken.{by-pair, with-pair-same, with-pair-other, message-taken, message-refused, list-taken, list-refused}
-use Rattle.delivery.specs.Calls.{Lent, lent, Lending, Call, message, messages, sent, lend, take-back, after, run, case}
+use Rattle.delivery.specs.Calls.{Lent, lent, Lending, Call, message, messages, sent, lend, take-back, after, run, returned, case}
 use Rattle.delivery.specs.Book.{parts-short, too-short, valid, valid-ones, entries, latest, granted, stamped, filled, written}
 use Rattle.delivery.proofs.Latest.{Is, latest-is, AllValid, Same, valid-append, newer, entry-newer, entry-older, entry-other}
 use Rattle.delivery.proofs.Filled.{extend, length-operators, length-rides, length-stamps, length-index, cleared-filled, stamp-filled, accepted-filled, filled-same, after-filled}
@@ -182,3 +182,131 @@ module _ (h : Head) (few : h .operators ≤ 200) (few′ : h .rides ≤ 60) (o r
       ap (λ (b : Board). in-order ms (suc at) b next .board) (message-written es a m) ∙
       in-order-written ms fs (valid-append h es (valid-ones h (m ∷ [])) a (all-valid h (m ∷ []))) (suc at) next ∙
       ap lent-board (append-assoc es (valid-ones h (m ∷ [])) (valid-ones h ms) ∙ ap (λ (x : List Message). es ++ x) (sym (valid-first h m ms)))
+
+-- ---- one call
+
+-- what a call enters
+abbrev pub entered : Head → Call → List Message
+entered h c = elim (too-short h c) [ true ↦ [] | false ↦ valid-ones h (sent c) ]
+
+module _ (h : Head) (c : Call) where
+  pub entered-short : T (too-short h c) → entered h c ≡ []
+  entered-short t = ap (λ (b : Bool). elim b [ true ↦ [] | false ↦ valid-ones h (sent c) ]) (test-true (too-short h c) t)
+
+  pub entered-long : (T (too-short h c) → ⊥) → entered h c ≡ valid-ones h (sent c)
+  entered-long n = ap (λ (b : Bool). elim b [ true ↦ [] | false ↦ valid-ones h (sent c) ]) (test-false (too-short h c) n)
+
+  pub valid-entered : AllValid h (entered h c)
+  valid-entered =
+      by-test (too-short h c)
+      (λ t e i. absurd (List·Memᴰ·not-nil (subst (List·Memᴰ e) (entered-short t) i)))
+      (λ n e i. all-valid h (sent c) e (subst (List·Memᴰ e) (entered-long n) i))
+
+module _ (h : Head) (few : h .operators ≤ 200) (few′ : h .rides ≤ 60) (es : List Message) where
+  abbrev written-es : Board
+  written-es = written h es
+
+  -- the parts are too short by their lengths exactly if the lent board's are
+  short-written : (l : Lending) → board-short (lend l written-es) ≡ parts-short h l
+  unfolding written filled
+  short-written l = parts-short-board h l written-es (laid-written h es) refl refl
+
+  -- lent long enough, the board has some words behind it
+  lend-written : (l : Lending) → (T (parts-short h l) → ⊥) → (o : List ℕ) × (r : List ℕ) × (s : List ℕ) × (i : List ℕ) × (lend l written-es ≡ extend written-es o r s i)
+  unfolding written filled
+  lend-written l n =
+      let long = board-long (lend l written-es) (λ t. n (subst T (short-written l) t)) in
+      let d = laid-written h es in
+      let o = lent-whole (l .operators) (written-es .operators) (omega (arith, long .0, d .operators)) in
+      let r = lent-whole (l .rides) (written-es .rides) (omega (arith, long .1, d .rides)) in
+      let s = lent-whole (l .stamps) (written-es .stamps) (omega (arith, long .2, d .stamps)) in
+      let i = lent-whole (l .index) (written-es .index) (omega (arith, long .3, d .index)) in
+      (o .0, r .0, s .0, i .0, λ j. record { head = written-es .head; operators = o .1 j; rides = r .1 j; stamps = s .1 j; index = i .1 j })
+
+  -- ---- case 3
+
+  short-message : (l : Lending) (m : Message) → T (parts-short h l) → message-refusal (lend l written-es) m ≡ 3
+  unfolding written filled message-refusal
+  short-message l m t = short-three (lend l written-es) (board-short (lend l written-es)) _ few few′ (subst T (sym (short-written l)) t)
+
+  short-list : (l : Lending) (n : ℕ) (answers : List ℕ) → T (parts-short h l || ltb (length answers) n) → list-refusal (lend l written-es) n answers ≡ 3
+  unfolding written filled list-refusal
+  short-list l n answers t =
+      short-three (lend l written-es) (board-short (lend l written-es) || refused-3 n answers) _ few few′ (subst (λ (x : Bool). T (x || ltb (length answers) n)) (sym (short-written l)) t)
+
+  pub after-short : (c : Call) → T (too-short h c) → after written-es c ≡ written-es
+  unfolding after too-short
+  after-short (message l m) t =
+      ap (λ (x : MessageOutcome). take-back written-es (x .board)) (message-refused (lend l written-es) m 2 (short-message l m t)) ∙
+      take-back-same l written-es
+  after-short (messages l ms answers) t =
+      ap (λ (x : ListOutcome). take-back written-es (x .board)) (list-refused (lend l written-es) ms answers 2 (short-list l (length ms) answers t)) ∙
+      take-back-same l written-es
+
+  pub returned-short : (c : Call) → T (too-short h c) → returned written-es c ≡ 3
+  unfolding returned too-short
+  returned-short (message l m) t = ap (λ (x : MessageOutcome). x .answer .code) (message-refused (lend l written-es) m 2 (short-message l m t))
+  returned-short (messages l ms answers) t = ap (λ (x : ListOutcome). x .code) (list-refused (lend l written-es) ms answers 2 (short-list l (length ms) answers t))
+
+  -- ---- and the others of 1 to 6
+
+  long-list : AllValid h es → (l : Lending) (n : ℕ) (answers : List ℕ) → (T (parts-short h l || ltb (length answers) n) → ⊥) → list-refusal (lend l written-es) n answers ≡ 0
+  long-list a l n answers long =
+      let w = lend-written l (λ t. long (or-left (parts-short h l) (ltb (length answers) n) t)) in
+      ap (λ (b : Board). list-refusal b n answers) (w .4) ∙
+      list-accepted (extend written-es (w .0) (w .1) (w .2) (w .3)) n answers (accepted-written h es few few′ a (w .0) (w .1) (w .2) (w .3)) (enough (length answers) n (λ t. long (or-right (parts-short h l) (ltb (length answers) n) t)))
+
+  case-short : (c : Call) → T (too-short h c) → case written-es c ≡ 3
+  unfolding case too-short
+  case-short (message l m) t = short-list l 0 [] (or-left (parts-short h l) (ltb 0 0) t)
+  case-short (messages l ms answers) t = short-list l (length ms) answers t
+
+  pub case-long : AllValid h es → (c : Call) → (T (too-short h c) → ⊥) → case written-es c ≡ 0
+  unfolding case too-short
+  case-long a (message l m) n = long-list a l 0 [] (λ t. n (or-cases (parts-short h l) (ltb 0 0) t (λ s. s) (λ s. absurd s)))
+  case-long a (messages l ms answers) n = long-list a l (length ms) answers n
+
+  pub case-written : AllValid h es → (c : Call) → case written-es c ≡ elim (too-short h c) [ true ↦ 3 | false ↦ 0 ]
+  case-written a c =
+      by-test (too-short h c)
+      (λ t. case-short c t ∙ ap (λ (b : Bool). elim b [ true ↦ 3 | false ↦ 0 ]) (sym (test-true (too-short h c) t)))
+      (λ n. case-long a c n ∙ ap (λ (b : Bool). elim b [ true ↦ 3 | false ↦ 0 ]) (sym (test-false (too-short h c) n)))
+
+  -- ---- what it leaves
+
+  after-long : AllValid h es → (c : Call) → (T (too-short h c) → ⊥) → after written-es c ≡ written h (es ++ valid-ones h (sent c))
+  unfolding after too-short
+  after-long a (message l m) n =
+      let w = lend-written l n in
+      let fs : List Message = es ++ valid-ones h (m ∷ []) in
+      ap (λ (b : Board). take-back written-es (board-message b m .board)) (w .4) ∙
+      ap (take-back written-es) (message-written h few few′ (w .0) (w .1) (w .2) (w .3) es a m) ∙
+      take-back-new h written-es (written h fs) (w .0) (w .1) (w .2) (w .3) (laid-written h es) (laid-written h fs)
+  after-long a (messages l ms answers) n =
+      let w = lend-written l (λ t. n (or-left (parts-short h l) (ltb (length answers) (length ms)) t)) in
+      let fs : List Message = es ++ valid-ones h ms in
+      ap (λ (x : ListOutcome). take-back written-es (x .board)) (list-taken (lend l written-es) ms answers (long-list a l (length ms) answers n)) ∙
+      ap (λ (b : Board). take-back written-es (in-order ms 0 b answers .board)) (w .4) ∙
+      ap (take-back written-es) (in-order-written h few few′ (w .0) (w .1) (w .2) (w .3) ms es a 0 answers) ∙
+      take-back-new h written-es (written h fs) (w .0) (w .1) (w .2) (w .3) (laid-written h es) (laid-written h fs)
+
+  pub after-written : AllValid h es → (c : Call) → after written-es c ≡ written h (es ++ entered h c)
+  after-written a c =
+      by-test (too-short h c)
+      (λ t. after-short c t ∙ ap (written h) (sym (append-nil es) ∙ ap (λ (x : List Message). es ++ x) (sym (entered-short h c t))))
+      (λ n. after-long a c n ∙ ap (λ (x : List Message). written h (es ++ x)) (sym (entered-long h c n)))
+
+-- ---- a list of calls
+
+pub valid-entries : (h : Head) (cs : List Call) → AllValid h (entries h cs)
+unfolding entries
+valid-entries h [] e i = absurd (List·Memᴰ·not-nil i)
+valid-entries h (c ∷ cs) e i = valid-append h (entered h c) (entries h cs) (valid-entered h c) (valid-entries h cs) e i
+
+pub run-written : (h : Head) → h .operators ≤ 200 → h .rides ≤ 60 → (cs : List Call) (es : List Message) → AllValid h es → run (written h es) cs ≡ written h (es ++ entries h cs)
+unfolding run entries
+run-written h few few′ [] es a = ap (written h) (sym (append-nil es))
+run-written h few few′ (c ∷ cs) es a =
+    ap (λ (b : Board). run b cs) (after-written h few few′ es a c) ∙
+    run-written h few few′ cs (es ++ entered h c) (valid-append h es (entered h c) a (valid-entered h c)) ∙
+    ap (written h) (append-assoc es (entered h c) (entries h cs))

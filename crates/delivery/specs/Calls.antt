@@ -84,6 +84,11 @@ built-board b start =
       index = take (index-places (b .head)) (left .index);
     }
 
+-- the number that a call returns
+unfoldable pub returned : Board → Call → ℕ
+returned b (message l m) = board-message (lend l b) m .answer .code
+returned b (messages l ms answers) = board-messages (lend l b) ms answers .code
+
 -- the lowest of 1 to 6 that applies to a call on a board, 0 if none does; a message call has no answer list
 unfoldable pub case : Board → Call → ℕ
 case b (message l m) = list-refusal (lend l b) 0 []

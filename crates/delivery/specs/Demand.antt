@@ -14,7 +14,7 @@ use Rattle.model.specs.Layout.{Board, over, graph}
 use Rattle.model.specs.Refusal.{later, build-refusal, message-refusal, list-refusal}
 use Rattle.model.specs.Message.{cleared-on, board-message, ListOutcome, board-messages}
 use Rattle.model.specs.Demand.{OneMove}
-use Rattle.delivery.specs.Calls.{Call, run, built-board, case, delivered}
+use Rattle.delivery.specs.Calls.{Call, run, built-board, returned, case, delivered}
 use Rattle.delivery.specs.Book.{too-short, valid, book, latest, written}
 
 -- Demand 3, of the whole list: for a pair table that is accepted (1 to 5 don't apply to its build), a starting stamp from 1 (nor 9),
@@ -25,12 +25,12 @@ BoardIsBook =
     build-refusal b start ≡ 0 →
     run (built-board b start) calls ≡ written (b .head) (book (b .head) (b .operators) (b .rides) start calls)
 
--- of 1 to 6 only 3 arises in the calls of a list, and exactly where a length is too short
-abbrev pub OnlyThree : Type 0
-OnlyThree =
-    (b : Board) (start : ℕ) (calls : List Call) (c : Call) →
-    build-refusal b start ≡ 0 →
-    case (run (built-board b start) calls) c ≡ elim (too-short (b .head) c) [ true ↦ 3 | false ↦ 0 ]
+-- of 1 to 6 only 3 arises in the calls of a list, exactly where a length is too short, and such a call returns it
+pub record OnlyThree : Type 0 where
+  pub case-three : (b : Board) (start : ℕ) (calls : List Call) (c : Call) → build-refusal b start ≡ 0 →
+      case (run (built-board b start) calls) c ≡ elim (too-short (b .head) c) [ true ↦ 3 | false ↦ 0 ]
+  pub returns-three : (b : Board) (start : ℕ) (calls : List Call) (c : Call) → build-refusal b start ≡ 0 → T (too-short (b .head) c) →
+      returned (run (built-board b start) calls) c ≡ 3
 
 -- e is a latest entry for the pair (u, v): one that no entry for it is later than
 pub record Latest (es : List Message) (u v : ℕ) (e : Message) : Type 0 where

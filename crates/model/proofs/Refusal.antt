@@ -1,5 +1,5 @@
 -- Laws of the numbers 1 to 10: the lowest that applies, boards to which 1 to 6 do not apply, and valid messages. Assumes nothing.
-use mathlib.Core.Path.{_≡_, refl, sym, ap, _∙_, subst}
+use mathlib.Core.Path.{_≡_, refl, sym, ap, ap₂, _∙_, subst}
 use mathlib.Core.Bool.{Bool, true, false, _&&_, _||_, not}
 use mathlib.Core.List.{List, [], _∷_, _++_}
 use Prim.Native.Nat.{ℕ, zero, suc, _+_, _*_, _≤_, _<_}
@@ -10,7 +10,7 @@ use lib.ListN.{length, getD}
 use Rattle.model.specs.declared.Head.{Head}
 use Rattle.model.specs.declared.Message.{Message}
 use Rattle.model.specs.Layout.{Board, pair-places, index-places, graph}
-use Rattle.model.specs.Refusal.{refused-1, refused-2, refused-3, refused-4, refused-5, refused-6, refused-7, refused-8, refused-9, refused-10, out-of-range, stamp-place, lowest-number, board-short, table-cases, message-refusal, list-refusal}
+use Rattle.model.specs.Refusal.{refused-1, refused-2, refused-3, refused-4, refused-5, refused-6, refused-7, refused-8, refused-9, refused-10, out-of-range, stamp-place, lowest-number, board-short, table-cases, build-refusal, message-refusal, list-refusal}
 use Rattle.model.specs.Message.{cleared-on}
 use Rattle.model.proofs.Count.{by-test, test-true, test-false, or-left, or-right, or-cases, some-holds, some-witness}
 use Rattle.model.proofs.Pairs.{Pairs, listed-place, table-pairs, pairs-fit, pairs-accepted}
@@ -42,8 +42,8 @@ not-less a b h t = omega (arith, ltb→lt a b t)
 
 -- ---- 1 to 6
 
--- a board to which 1 to 6 do not apply
-pub record Accepted (b : Board) : Type 0 where
+-- a board to which 1 to 5 do not apply
+pub record AcceptedTable (b : Board) : Type 0 where
   pub few-operators : b .head .operators ≤ 200
   pub few-rides : b .head .rides ≤ 60
   pub operators : pair-places (b .head) ≤ length (b .operators)
@@ -51,6 +51,10 @@ pub record Accepted (b : Board) : Type 0 where
   pub stamps : pair-places (b .head) ≤ length (b .stamps)
   pub index : index-places (b .head) ≤ length (b .index)
   pub pairs : Pairs (graph (b .head) (b .operators) (b .rides)) (b .head .pairs) (b .operators) (b .rides)
+
+-- a board to which 1 to 6 do not apply
+pub record Accepted (b : Board) : Type 0 where
+  pub table : AcceptedTable b
   pub stamped : (u v : ℕ) → T (cleared-on b u v) → 1 ≤ getD (b .stamps) (stamp-place (b .head) u v) 0
 
 module _ (b : Board) where
@@ -78,23 +82,17 @@ module _ (b : Board) where
       (not-less (length (b .stamps)) (pair-places h) r))
       (not-less (length (b .index)) (index-places h) s)
 
-  -- the test of 6 at place i
-  abbrev unstamped : ℕ → Bool
-  unstamped i = eqb (getD (b .stamps) (stamp-place h (getD (b .operators) i 0) (getD (b .rides) i 0)) 0) 0
+  -- the numbers 1 to 5 of a board, and those behind them
+  abbrev five : Bool → List (ℕ × Bool) → List (ℕ × Bool)
+  five short cs = table-cases h short (b .operators) (b .rides) ++ cs
 
-  -- the numbers 1 to 6 of a board, and those behind them
-  abbrev six : Bool → List (ℕ × Bool) → List (ℕ × Bool)
-  six short cs = table-cases h short (b .operators) (b .rides) ++ (6, refused-6 b) ∷ cs
-
-  pub accepted-none : (short : Bool) (cs : List (ℕ × Bool)) → (T (board-short b) → T short) → lowest-number (six short cs) ≡ 0 → Accepted b × (lowest-number cs ≡ 0)
-  unfolding refused-6
-  accepted-none short cs s e =
+  pub table-none : (short : Bool) (cs : List (ℕ × Bool)) → (T (board-short b) → T short) → lowest-number (five short cs) ≡ 0 → AcceptedTable b × (T short → ⊥) × (lowest-number cs ≡ 0)
+  table-none short cs s e =
       let n1 = lowest-none 0 (refused-1 h) _ e in
       let n2 = lowest-none 1 (refused-2 h) _ (n1 .1) in
       let n3 = lowest-none 2 short _ (n2 .1) in
       let n4 = lowest-none 3 (refused-4 h) _ (n3 .1) in
       let n5 = lowest-none 4 (refused-5 h (b .operators) (b .rides)) _ (n4 .1) in
-      let n6 = lowest-none 5 (refused-6 b) cs (n5 .1) in
       let long = board-long (λ t. n3 .0 (s t)) in (
         record {
           few-operators = enough 200 (h .operators) (n1 .0);
@@ -104,44 +102,70 @@ module _ (b : Board) where
           stamps = long .2;
           index = long .3;
           pairs = table-pairs h (b .operators) (b .rides) (n5 .0);
-          stamped = λ u v t.
-              let w = listed-place (h .pairs) (b .operators) (b .rides) u v t in
-              let at : ℕ → ℕ → ℕ = λ x y. getD (b .stamps) (stamp-place h x y) 0 in
-              elim (decLe 1 (at u v)) [
-                | yes l ↦ l
-                | no l ↦ absurd (n6 .0 (some-holds unstamped (h .pairs) (w .0) (w .1) (subst (λ (x : ℕ). T (eqb x 0)) (let z : 0 ≡ at (getD (b .operators) (w .0) 0) (getD (b .rides) (w .0) 0) = omega (arith, ap (λ (x : ℕ). at x v) (w .2), ap (λ (y : ℕ). at (getD (b .operators) (w .0) 0) y) (w .3)) in z) (eqb-refl 0))))
-              ];
         },
-        n6 .1,
+        n3 .0,
+        n5 .1,
       )
 
-  accepted-stamped : Accepted b → T (refused-6 b) → ⊥
-  unfolding refused-6
-  accepted-stamped a t =
-      let w = some-witness unstamped (h .pairs) t in
-      let u : ℕ = getD (b .operators) (w .0) 0 in
-      let v : ℕ = getD (b .rides) (w .0) 0 in
-      omega (arith, a .stamped u v (a .pairs .holds (w .0) (w .1)), eqb→eq (getD (b .stamps) (stamp-place h u v) 0) 0 (w .2))
-
-  -- on such a board the numbers behind 6 decide
-  pub accepted-skip : (short : Bool) (cs : List (ℕ × Bool)) → Accepted b → (T short → ⊥) → lowest-number (six short cs) ≡ lowest-number cs
-  accepted-skip short cs a n =
+  -- on such a board the numbers behind 5 decide
+  pub table-skip : (short : Bool) (cs : List (ℕ × Bool)) → AcceptedTable b → (T short → ⊥) → lowest-number (five short cs) ≡ lowest-number cs
+  table-skip short cs a n =
       lowest-skip 1 (refused-1 h) _ (not-less 200 (h .operators) (a .few-operators)) ∙
       lowest-skip 2 (refused-2 h) _ (not-less 60 (h .rides) (a .few-rides)) ∙
       lowest-skip 3 short _ n ∙
       lowest-skip 4 (refused-4 h) _ (not-less (pair-places h) (h .pairs) (pairs-fit h (b .operators) (b .rides) (cleared-on b) (a .pairs))) ∙
-      lowest-skip 5 (refused-5 h (b .operators) (b .rides)) _ (pairs-accepted h (b .operators) (b .rides) (cleared-on b) (a .pairs)) ∙
-      lowest-skip 6 (refused-6 b) cs (accepted-stamped a)
-
-  pub accepted-long : Accepted b → T (board-short b) → ⊥
-  accepted-long a = long-board (a .operators) (a .rides) (a .stamps) (a .index)
+      lowest-skip 5 (refused-5 h (b .operators) (b .rides)) _ (pairs-accepted h (b .operators) (b .rides) (cleared-on b) (a .pairs))
 
   -- a lent part that is too short gives 3, where the sizes are in bounds
-  pub short-three : (short : Bool) (cs : List (ℕ × Bool)) → h .operators ≤ 200 → h .rides ≤ 60 → T short → lowest-number (six short cs) ≡ 3
+  pub short-three : (short : Bool) (cs : List (ℕ × Bool)) → h .operators ≤ 200 → h .rides ≤ 60 → T short → lowest-number (five short cs) ≡ 3
   short-three short cs o r t =
       lowest-skip 1 (refused-1 h) _ (not-less 200 (h .operators) o) ∙
       lowest-skip 2 (refused-2 h) _ (not-less 60 (h .rides) r) ∙
       lowest-here 3 short _ t
+
+  -- the test of 6 at place i
+  abbrev unstamped : ℕ → Bool
+  unstamped i = eqb (getD (b .stamps) (stamp-place h (getD (b .operators) i 0) (getD (b .rides) i 0)) 0) 0
+
+  stamped-none : (T (refused-6 b) → ⊥) → (u v : ℕ) → T (cleared-on b u v) → 1 ≤ getD (b .stamps) (stamp-place h u v) 0
+  unfolding refused-6
+  stamped-none n u v t =
+      let w = listed-place (h .pairs) (b .operators) (b .rides) u v t in
+      let at : ℕ → ℕ → ℕ = λ x y. getD (b .stamps) (stamp-place h x y) 0 in
+      let here : ℕ = at (getD (b .operators) (w .0) 0) (getD (b .rides) (w .0) 0) in
+      let e : here ≡ at u v = ap₂ at (w .2) (w .3) in
+      elim (decLe 1 (at u v)) [
+        | yes l ↦ l
+        | no l ↦ absurd (n (some-holds unstamped (h .pairs) (w .0) (w .1) (subst (λ (x : ℕ). T (eqb x 0)) (let z : 0 ≡ here = omega arith in z) (eqb-refl 0))))
+      ]
+
+  none-stamped : Accepted b → T (refused-6 b) → ⊥
+  unfolding refused-6
+  none-stamped a t =
+      let w = some-witness unstamped (h .pairs) t in
+      let u : ℕ = getD (b .operators) (w .0) 0 in
+      let v : ℕ = getD (b .rides) (w .0) 0 in
+      omega (arith, a .stamped u v (a .table .pairs .holds (w .0) (w .1)), eqb→eq (getD (b .stamps) (stamp-place h u v) 0) 0 (w .2))
+
+  pub accepted-none : (short : Bool) (cs : List (ℕ × Bool)) → (T (board-short b) → T short) → lowest-number (five short ((6, refused-6 b) ∷ cs)) ≡ 0 → Accepted b × (T short → ⊥) × (lowest-number cs ≡ 0)
+  accepted-none short cs s e =
+      let t = table-none short ((6, refused-6 b) ∷ cs) s e in
+      let n6 = lowest-none 5 (refused-6 b) cs (t .2) in
+      (record { table = t .0; stamped = stamped-none (n6 .0) }, t .1, n6 .1)
+
+  -- on such a board the numbers behind 6 decide
+  pub accepted-skip : (short : Bool) (cs : List (ℕ × Bool)) → Accepted b → (T short → ⊥) → lowest-number (five short ((6, refused-6 b) ∷ cs)) ≡ lowest-number cs
+  accepted-skip short cs a n = table-skip short ((6, refused-6 b) ∷ cs) (a .table) n ∙ lowest-skip 6 (refused-6 b) cs (none-stamped a)
+
+  pub table-long : AcceptedTable b → T (board-short b) → ⊥
+  table-long a = long-board (a .operators) (a .rides) (a .stamps) (a .index)
+
+  -- a build that is not refused
+  pub build-none : (start : ℕ) → build-refusal b start ≡ 0 → AcceptedTable b × (1 ≤ start)
+  unfolding build-refusal
+  build-none start e =
+      let t = table-none (board-short b) _ (λ s. s) e in
+      (t .0, elim (decLe 1 start) [ yes l ↦ l | no l ↦ absurd (lowest-none 8 (refused-9 start) [] (t .2) .0 (subst (λ (x : ℕ). T (eqb x 0)) (let z : 0 ≡ start = omega arith in z) (eqb-refl 0))) ])
 
 -- ---- 7 to 10
 
@@ -193,7 +217,7 @@ module _ (b : Board) (m : Message) where
   unfolding message-refusal
   taken-none e =
       let a = accepted-none b (board-short b) four (λ t. t) e in
-      let n7 = lowest-none 6 (refused-7 m) _ (a .1) in
+      let n7 = lowest-none 6 (refused-7 m) _ (a .2) in
       let n8 = lowest-none 7 (refused-8 (b .head) m) _ (n7 .1) in
       let n9 = lowest-none 8 (refused-9 (m .stamp)) _ (n8 .1) in
       let n10 = lowest-none 9 (refused-10 b m) [] (n9 .1) in
@@ -202,7 +226,7 @@ module _ (b : Board) (m : Message) where
   -- on an accepted board 7 to 10 decide
   pub message-accepted : Accepted b → message-refusal b m ≡ lowest-number four
   unfolding message-refusal
-  message-accepted a = accepted-skip b (board-short b) four a (accepted-long b a)
+  message-accepted a = accepted-skip b (board-short b) four a (table-long b (a .table))
 
   -- a valid message on an accepted board is refused exactly if 10 applies
   pub message-valid : Accepted b → Valid (b .head) m → message-refusal b m ≡ lowest-number ((10, refused-10 b m) ∷ [])
@@ -218,13 +242,10 @@ module _ (b : Board) (messages : ℕ) (answers : List ℕ) where
   list-none e =
       let s : Bool = refused-3 messages answers in
       let a = accepted-none b (board-short b || s) [] (or-left (board-short b) s) e in
-      let n1 = lowest-none 0 (refused-1 (b .head)) _ e in
-      let n2 = lowest-none 1 (refused-2 (b .head)) _ (n1 .1) in
-      let n3 = lowest-none 2 (board-short b || s) _ (n2 .1) in
-      (a .0, enough (length answers) messages (λ t. n3 .0 (or-right (board-short b) s t)))
+      (a .0, enough (length answers) messages (λ t. a .1 (or-right (board-short b) s t)))
 
   pub list-accepted : Accepted b → messages ≤ length answers → list-refusal b messages answers ≡ 0
   unfolding list-refusal lowest-number
   list-accepted a l =
       accepted-skip b (board-short b || refused-3 messages answers) [] a
-      (λ t. or-cases (board-short b) (refused-3 messages answers) t (accepted-long b a) (not-less (length answers) messages l))
+      (λ t. or-cases (board-short b) (refused-3 messages answers) t (table-long b (a .table)) (not-less (length answers) messages l))

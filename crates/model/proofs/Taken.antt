@@ -82,18 +82,20 @@ module _ (b : Board) (m : Message) where
       let b′ = board-after b m in
       let ps = pairs-after v in
       record {
-        few-operators = a .few-operators;
-        few-rides = a .few-rides;
-        operators = long-over (padded (pair-places (b .head)) (map (λ k. k / b .head .rides) (pair-numbers g))) (b .operators) (pair-places (b .head)) (length-padded (λ k. k / b .head .rides) g);
-        rides = long-over (padded (pair-places (b .head)) (map (λ k. k % b .head .rides) (pair-numbers g))) (b .rides) (pair-places (b .head)) (length-padded (λ k. k % b .head .rides) g);
-        stamps = omega (arith, length-set (b .stamps) (stamp-place (b .head) (m .operator) (m .ride)) (m .stamp), a .stamps);
-        index = long-over (index-of g) (b .index) (index-places (b .head)) (length-rows (nodes g) (λ (r x : ℕ). level g (suc r) x) (b .head .rides));
-        pairs = table-pairs (b′ .head) (b′ .operators) (b′ .rides) (pairs-accepted (b′ .head) (b′ .operators) (b′ .rides) (g .cleared) ps);
+        table = record {
+          few-operators = a .table .few-operators;
+          few-rides = a .table .few-rides;
+          operators = long-over (padded (pair-places (b .head)) (map (λ k. k / b .head .rides) (pair-numbers g))) (b .operators) (pair-places (b .head)) (length-padded (λ k. k / b .head .rides) g);
+          rides = long-over (padded (pair-places (b .head)) (map (λ k. k % b .head .rides) (pair-numbers g))) (b .rides) (pair-places (b .head)) (length-padded (λ k. k % b .head .rides) g);
+          stamps = omega (arith, length-set (b .stamps) (stamp-place (b .head) (m .operator) (m .ride)) (m .stamp), a .table .stamps);
+          index = long-over (index-of g) (b .index) (index-places (b .head)) (length-rows (nodes g) (λ (r x : ℕ). level g (suc r) x) (b .head .rides));
+          pairs = table-pairs (b′ .head) (b′ .operators) (b′ .rides) (pairs-accepted (b′ .head) (b′ .operators) (b′ .rides) (g .cleared) ps);
+        };
         stamped = λ x y t.
             let r = pairs-in-range g (b′ .head .pairs) (b′ .operators) (b′ .rides) ps x y t in
             by-pair x y (m .operator) (m .ride)
             (λ p q. let e : stamp-place (b .head) x y ≡ stamp-place (b .head) (m .operator) (m .ride) = ap₂ (stamp-place (b .head)) p q in
-            omega (arith, ap (λ (k : ℕ). getD (b′ .stamps) k 0) e, stamp-same (b .stamps) (b .head .rides) (m .operator) (m .ride) (m .stamp) (omega (arith, digits-lt (v .operator) (v .ride), a .stamps)), v .stamp))
+            omega (arith, ap (λ (k : ℕ). getD (b′ .stamps) k 0) e, stamp-same (b .stamps) (b .head .rides) (m .operator) (m .ride) (m .stamp) (omega (arith, digits-lt (v .operator) (v .ride), a .table .stamps)), v .stamp))
             (λ n. omega (arith, stamp-other (b .stamps) (b .head .rides) (m .operator) (m .ride) (m .stamp) (v .ride) x y (r .1) n, a .stamped x y (subst T (cleared-after v x y (r .0) (r .1) ∙ with-pair-other (cleared-on b) (m .operator) (m .ride) (eqb (m .kind) 1) x y n) t)));
       }
 
