@@ -3,3 +3,7 @@ pub mod Filled
 pub mod Lending
 pub mod Run
 pub mod Build
+pub mod Order
+pub mod OneMessage
+pub mod ListIsCalls
+pub mod Demand

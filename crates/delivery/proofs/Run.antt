@@ -256,7 +256,7 @@ module _ (h : Head) (few : h .operators ≤ 200) (few′ : h .rides ≤ 60) (es 
       ap (λ (b : Board). list-refusal b n answers) (w .4) ∙
       list-accepted (extend written-es (w .0) (w .1) (w .2) (w .3)) n answers (accepted-written h es few few′ a (w .0) (w .1) (w .2) (w .3)) (enough (length answers) n (λ t. long (or-right (parts-short h l) (ltb (length answers) n) t)))
 
-  case-short : (c : Call) → T (too-short h c) → case written-es c ≡ 3
+  pub case-short : (c : Call) → T (too-short h c) → case written-es c ≡ 3
   unfolding case too-short
   case-short (message l m) t = short-list l 0 [] (or-left (parts-short h l) (ltb 0 0) t)
   case-short (messages l ms answers) t = short-list l (length ms) answers t
