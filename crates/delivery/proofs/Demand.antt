@@ -12,8 +12,8 @@ use Rattle.model.specs.Refusal.{build-refusal}
 use Rattle.delivery.specs.Calls.{Call, run, built-board, returned, case, delivered}
 use Rattle.delivery.specs.Book.{valid, entries, grants, book, written}
 use Rattle.delivery.specs.Demand.{BoardIsBook, OnlyThree, SameTable, AnyOrder, Demand3}
-use Rattle.delivery.proofs.Latest.{AllValid, valid-append, latest-laws}
-use Rattle.delivery.proofs.Run.{test-valid, valid-entries, run-written, case-written, returned-short}
+use Rattle.delivery.proofs.Latest.{test-valid, AllValid, valid-append, latest-laws}
+use Rattle.delivery.proofs.Run.{valid-entries, run-written, case-written, returned-short}
 use Rattle.delivery.proofs.Build.{table, valid-grants, built-written, grants-same}
 use Rattle.delivery.proofs.Order.{entries-delivered, delivered-entries, written-set}
 use Rattle.delivery.proofs.OneMessage.{one-message}

@@ -2,21 +2,41 @@
 -- A valid entry has the rank 2 × stamp + kind: the later of two has the larger one, and entries of one rank have one stamp and one kind.
 use mathlib.Core.Path.{_≡_, refl, sym, ap, _∙_, subst}
 use mathlib.Core.Logic.{_⊎_, inl, inr}
-use mathlib.Core.Bool.{Bool, true, false, _&&_, _||_}
+use mathlib.Core.Bool.{Bool, true, false, _&&_, _||_, not}
 use mathlib.Core.List.{List, [], _∷_, _++_, List·Memᴰ, List·Memᴰ·cases-cons, List·Memᴰ·not-nil, List·Memᴰ·append-cases, List·Memᴰ·eq-of-singleton, Memᴰ·append-left, Memᴰ·append-right}
 use mathlib.Core.Option.{Option, none, some}
 use Prim.Native.Nat.{ℕ, suc, _+_, _*_, _≤_, _<_, max}
 use native.Mathlib.Omega.{arith}
 use native.Mathlib.Decide.{decLt, decLe, ℕ-discrete}
-use lib.Dec.{T, ltb, eqb, ltb→lt, lt→ltb, eqb→eq, eqb-refl}
+use lib.Dec.{T, ltb, eqb, ltb→lt, lt→ltb, eqb→eq, eqb-refl, T-not, not-T}
 use borrow.Author.Tests.{eq-eqb, ne-eqb}
 use Rattle.model.specs.declared.Head.{Head}
 use Rattle.model.specs.declared.Message.{Message}
-use Rattle.model.specs.Refusal.{later, last-kind}
+use Rattle.model.specs.Refusal.{refused-7, refused-8, refused-9, later, last-kind}
 use Rattle.model.proofs.Count.{by-test, test-true, test-false, and-left, and-right, and-both, or-left, or-right, or-cases}
-use Rattle.model.proofs.Refusal.{Valid}
-use Rattle.delivery.specs.Book.{later-one, latest, granted, stamped}
+use Rattle.model.proofs.Refusal.{Valid, valid-kind, valid-pair, valid-stamp, tests-valid}
+use Rattle.delivery.specs.Book.{valid, later-one, latest, granted, stamped}
 use Rattle.delivery.specs.Demand.{Latest, LatestLaws}
+
+-- ---- valid messages
+
+module _ (h : Head) (m : Message) where
+  pub valid-test : T (valid h m) → Valid h m
+  unfolding valid
+  valid-test t =
+      let n = T-not (refused-7 m || refused-8 h m || refused-9 (m .stamp)) t in
+      tests-valid h m
+      (λ s. n (or-left (refused-7 m || refused-8 h m) (refused-9 (m .stamp)) (or-left (refused-7 m) (refused-8 h m) s)))
+      (λ s. n (or-left (refused-7 m || refused-8 h m) (refused-9 (m .stamp)) (or-right (refused-7 m) (refused-8 h m) s)))
+      (λ s. n (or-right (refused-7 m || refused-8 h m) (refused-9 (m .stamp)) s))
+
+  pub test-valid : Valid h m → T (valid h m)
+  unfolding valid
+  test-valid v =
+      not-T (refused-7 m || refused-8 h m || refused-9 (m .stamp))
+      (λ t. or-cases (refused-7 m || refused-8 h m) (refused-9 (m .stamp)) t
+      (λ s. or-cases (refused-7 m) (refused-8 h m) s (valid-kind h m (v .kind-low) (v .kind-high)) (valid-pair h m (v .operator) (v .ride)))
+      (valid-stamp h m (v .stamp)))
 
 -- ---- later
 
@@ -120,13 +140,6 @@ latest-is (e ∷ es) u v =
     (λ t. subst (Is (e ∷ es) u v) (sym (latest-about e es u v t)) (later-one-is e es u v (latest es u v) t (latest-is es u v)))
     (λ n. subst (Is (e ∷ es) u v) (sym (latest-other e es u v n)) (other-is e es u v (latest es u v) n (latest-is es u v)))
 
-pub latest-laws : LatestLaws
-latest-laws =
-    record {
-      found = λ es u v e q. subst (Is es u v) q (latest-is es u v);
-      missing = λ es u v q. subst (Is es u v) q (latest-is es u v);
-    }
-
 -- ---- the latest depends on the set of entries alone
 
 abbrev pub rank : Message → ℕ
@@ -149,6 +162,10 @@ module _ (h : Head) (e f : Message) (e-valid : Valid h e) (f-valid : Valid h f) 
             later-kind (e .kind) (e .stamp) (f .kind) (f .stamp) q (omega (arith, e-valid .kind-high, f-valid .kind-low)) (omega (arith, e-valid .kind-high, f-valid .kind-low)))
       ]
 
+  -- entries of one rank have one kind and one stamp
+  same-rank : rank e ≡ rank f → (e .kind ≡ f .kind) × (e .stamp ≡ f .stamp)
+  same-rank q = omega (arith, e-valid .kind-low, e-valid .kind-high, f-valid .kind-low, f-valid .kind-high)
+
 -- each entry of es for the pair has one in fs that it is not later than
 abbrev pub Covered : List Message → List Message → ℕ → ℕ → Type 0
 Covered es fs u v = (e : Message) → List·Memᴰ e es → e .operator ≡ u → e .ride ≡ v → (f : Message) × List·Memᴰ f fs × (f .operator ≡ u) × (f .ride ≡ v) × (rank e ≤ rank f)
@@ -157,7 +174,7 @@ Covered es fs u v = (e : Message) → List·Memᴰ e es → e .operator ≡ u �
 abbrev pub Same : Option Message → Option Message → Type 0
 Same o o′ = (granted o ≡ granted o′) × (stamped o ≡ stamped o′)
 
-module _ (h : Head) (es fs : List Message) (u v : ℕ) (es-valid : AllValid h es) (fs-valid : AllValid h fs) where
+module _ (h : Head) (es : List Message) (u v : ℕ) (es-valid : AllValid h es) where
   -- no entry has a larger rank than the latest
   latest-rank : (e : Message) → Latest es u v e → (f : Message) → List·Memᴰ f es → f .operator ≡ u → f .ride ≡ v → rank f ≤ rank e
   latest-rank e l f m a b =
@@ -174,13 +191,24 @@ module _ (h : Head) (es fs : List Message) (u v : ℕ) (es-valid : AllValid h es
   same-is (some e) (some f) i j =
       let w = there e (i .entry) (i .operator) (i .ride) in
       let w′ = back f (j .entry) (j .operator) (j .ride) in
-      let q : rank e ≡ rank f = omega (arith, w .4, w′ .4, latest-rank h fs es u v fs-valid es-valid f j (w .0) (w .1) (w .2) (w .3), latest-rank h es fs u v es-valid fs-valid e i (w′ .0) (w′ .1) (w′ .2) (w′ .3)) in
-      let a = es-valid e (i .entry) in
-      let b = fs-valid f (j .entry) in
-      (ap (λ (k : ℕ). eqb k 1) (let z : e .kind ≡ f .kind = omega arith in z), omega arith)
+      let q : rank e ≡ rank f = omega (arith, w .4, w′ .4, latest-rank h fs u v fs-valid f j (w .0) (w .1) (w .2) (w .3), latest-rank h es u v es-valid e i (w′ .0) (w′ .1) (w′ .2) (w′ .3)) in
+      let k = same-rank h e f (es-valid e (i .entry)) (fs-valid f (j .entry)) q in
+      (ap (λ (x : ℕ). eqb x 1) (k .0), k .1)
 
   pub latest-same : Same (latest es u v) (latest fs u v)
   latest-same = same-is (latest es u v) (latest fs u v) (latest-is es u v) (latest-is fs u v)
+
+-- ---- the laws of the book's latest entry
+
+pub latest-laws : LatestLaws
+latest-laws =
+    record {
+      found = λ es u v e q. subst (Is es u v) q (latest-is es u v);
+      missing = λ es u v q. subst (Is es u v) q (latest-is es u v);
+      only = λ h es u v e f valid i j.
+          let a : AllValid h es = λ m k. valid-test h m (valid m k) in
+          same-rank h e f (a e (i .entry)) (a f (j .entry)) (omega (arith, latest-rank h es u v a e i f (j .entry) (j .operator) (j .ride), latest-rank h es u v a f j e (i .entry) (i .operator) (i .ride)));
+    }
 
 -- ---- one entry more
 
@@ -224,7 +252,7 @@ module _ (h : Head) (m : Message) (m-valid : Valid h m) where
     outranks none is t e i a b = absurd (is e i a b)
     outranks (some d) is t e i a b =
         let v = es-valid d (is .entry) in
-        omega (arith, latest-rank h es es (m .operator) (m .ride) es-valid es-valid d is e i a b, later-rank h m d m-valid v (subst T (newer-later d v) t))
+        omega (arith, latest-rank h es (m .operator) (m .ride) es-valid d is e i a b, later-rank h m d m-valid v (subst T (newer-later d v) t))
 
     outranked : (o : Option Message) → Is es (m .operator) (m .ride) o → (T (newer o) → ⊥) → (f : Message) × List·Memᴰ f es × (f .operator ≡ m .operator) × (f .ride ≡ m .ride) × (rank m ≤ rank f)
     outranked none is n = absurd (n (later-stamp (m .kind) (m .stamp) 2 0 (m-valid .stamp)))

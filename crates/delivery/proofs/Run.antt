@@ -14,34 +14,17 @@ use Rattle.model.specs.Layout.{Board, pair-places, index-places}
 use Rattle.model.specs.Refusal.{refused-3, refused-7, refused-8, refused-9, refused-10, later, last-kind, lowest-number, board-short, message-refusal, list-refusal}
 use Rattle.model.specs.Message.{cleared-on, with-pair, board-after, MessageOutcome, board-message, ListOutcome, in-order, board-messages}
 use Rattle.model.proofs.Count.{by-test, test-true, test-false, or-left, or-right, or-cases}
-use Rattle.model.proofs.Refusal.{lowest-here, lowest-skip, enough, Accepted, Valid, valid-kind, valid-pair, valid-stamp, tests-valid, board-long, short-three, taken-none, message-valid, list-accepted}
+use Rattle.model.proofs.Refusal.{lowest-here, lowest-skip, enough, Accepted, Valid, board-long, short-three, taken-none, message-valid, list-accepted}
 use Rattle.model.proofs.Taken.{by-pair, with-pair-same, with-pair-other, message-taken, message-refused, list-taken, list-refused}
 use Rattle.delivery.specs.Calls.{Lent, lent, Lending, Call, message, messages, sent, lend, take-back, after, run, returned, case}
 use Rattle.delivery.specs.Book.{parts-short, too-short, valid, valid-ones, entries, latest, granted, stamped, filled, written}
-use Rattle.delivery.proofs.Latest.{Is, latest-is, AllValid, Same, valid-append, newer, entry-newer, entry-older, entry-other}
+use Rattle.delivery.proofs.Latest.{valid-test, test-valid, Is, latest-is, AllValid, Same, valid-append, newer, entry-newer, entry-older, entry-other}
 use Rattle.delivery.proofs.Filled.{extend, length-operators, length-rides, length-stamps, length-index, cleared-filled, stamp-filled, accepted-filled, filled-same, after-filled}
 use Rattle.delivery.proofs.Lending.{lent-whole, take-back-same, Laid, take-back-new, parts-short-board}
 
 -- ---- valid messages
 
 module _ (h : Head) (m : Message) where
-  pub valid-test : T (valid h m) → Valid h m
-  unfolding valid
-  valid-test t =
-      let n = T-not (refused-7 m || refused-8 h m || refused-9 (m .stamp)) t in
-      tests-valid h m
-      (λ s. n (or-left (refused-7 m || refused-8 h m) (refused-9 (m .stamp)) (or-left (refused-7 m) (refused-8 h m) s)))
-      (λ s. n (or-left (refused-7 m || refused-8 h m) (refused-9 (m .stamp)) (or-right (refused-7 m) (refused-8 h m) s)))
-      (λ s. n (or-right (refused-7 m || refused-8 h m) (refused-9 (m .stamp)) s))
-
-  pub test-valid : Valid h m → T (valid h m)
-  unfolding valid
-  test-valid v =
-      not-T (refused-7 m || refused-8 h m || refused-9 (m .stamp))
-      (λ t. or-cases (refused-7 m || refused-8 h m) (refused-9 (m .stamp)) t
-      (λ s. or-cases (refused-7 m) (refused-8 h m) s (valid-kind h m (v .kind-low) (v .kind-high)) (valid-pair h m (v .operator) (v .ride)))
-      (valid-stamp h m (v .stamp)))
-
   module _ (ms : List Message) where
     pub valid-in : T (valid h m) → valid-ones h (m ∷ ms) ≡ m ∷ valid-ones h ms
     unfolding valid-ones

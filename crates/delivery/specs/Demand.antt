@@ -39,10 +39,12 @@ pub record Latest (es : List Message) (u v : ℕ) (e : Message) : Type 0 where
   pub ride : e .ride ≡ v
   pub last : (f : Message) → List·Memᴰ f es → f .operator ≡ u → f .ride ≡ v → T (later (f .kind) (f .stamp) (e .kind) (e .stamp)) → ⊥
 
--- the book's latest entry is one, and where there is none the pair has no entry
+-- the book's latest entry is one, where there is none the pair has no entry, and valid entries leave no choice of kind and stamp
 pub record LatestLaws : Type 0 where
   pub found : (es : List Message) (u v : ℕ) (e : Message) → latest es u v ≡ some e → Latest es u v e
   pub missing : (es : List Message) (u v : ℕ) → latest es u v ≡ none → (e : Message) → List·Memᴰ e es → e .operator ≡ u → e .ride ≡ v → ⊥
+  pub only : (h : Head) (es : List Message) (u v : ℕ) (e f : Message) → ((m : Message) → List·Memᴰ m es → T (valid h m)) → Latest es u v e → Latest es u v f →
+      (e .kind ≡ f .kind) × (e .stamp ≡ f .stamp)
 
 -- two boards as lent to a build have the same pair table
 pub record SameTable (b b′ : Board) : Type 0 where
