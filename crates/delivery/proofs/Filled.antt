@@ -46,11 +46,11 @@ module _ (h : Head) (c : ℕ → ℕ → Bool) (s : ℕ → ℕ → ℕ) where
 
   pub length-operators : length (filled h c s .operators) ≡ pair-places h
   unfolding filled
-  length-operators = length-padded (λ k. k / h .rides) (sized h c)
+  length-operators = length-padded _ (sized h c)
 
   pub length-rides : length (filled h c s .rides) ≡ pair-places h
   unfolding filled
-  length-rides = length-padded (λ k. k % h .rides) (sized h c)
+  length-rides = length-padded _ (sized h c)
 
   pub length-stamps : length (filled h c s .stamps) ≡ pair-places h
   unfolding filled
@@ -58,7 +58,7 @@ module _ (h : Head) (c : ℕ → ℕ → Bool) (s : ℕ → ℕ → ℕ) where
 
   pub length-index : length (filled h c s .index) ≡ index-places h
   unfolding filled index-of
-  length-index = length-rows (nodes (sized h c)) (λ (r x : ℕ). level (sized h c) (suc r) x) (h .rides)
+  length-index = length-rows (nodes (sized h c)) _ (h .rides)
 
   -- ---- as lent
 

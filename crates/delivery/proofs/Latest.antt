@@ -76,6 +76,14 @@ abbrev pub Is : List Message → ℕ → ℕ → Option Message → Type 0
 Is es u v none = (e : Message) → List·Memᴰ e es → e .operator ≡ u → e .ride ≡ v → ⊥
 Is es u v (some e) = Latest es u v e
 
+-- of two entries the later one is kept
+module _ (e d : Message) where
+  later-one-yes : Later e d → later-one e (some d) ≡ some e
+  later-one-yes t = rw (test-true (later (e .kind) (e .stamp) (d .kind) (d .stamp)) t, later-one)
+
+  later-one-no : (Later e d → ⊥) → later-one e (some d) ≡ some d
+  later-one-no n = rw (test-false (later (e .kind) (e .stamp) (d .kind) (d .stamp)) n, later-one)
+
 module _ (e : Message) (es : List Message) (u v : ℕ) where
   -- e is an entry for the pair
   abbrev about : Bool
@@ -99,14 +107,14 @@ module _ (e : Message) (es : List Message) (u v : ℕ) where
       }
   later-one-is (some d) t is =
       by-test (later (e .kind) (e .stamp) (d .kind) (d .stamp))
-      (λ l. subst (λ (x : Bool). Is (e ∷ es) u v (elim x [ true ↦ some e | false ↦ some d ])) (sym (test-true (later (e .kind) (e .stamp) (d .kind) (d .stamp)) l))
+      (λ l. subst (Is (e ∷ es) u v) (sym (later-one-yes e d l))
       (record {
         entry = List·Memᴰ.List·Memᴰ·head refl;
         operator = eqb→eq (e .operator) u (and-left (eqb (e .operator) u) (eqb (e .ride) v) t);
         ride = eqb→eq (e .ride) v (and-right (eqb (e .operator) u) (eqb (e .ride) v) t);
         last = λ f m a b k. elim (List·Memᴰ·cases-cons m) [ inl q ↦ later-irrefl e (subst (λ (x : Message). Later x e) q k) | inr i ↦ is .last f i a b (later-trans f e d k l) ];
       }))
-      (λ n. subst (λ (x : Bool). Is (e ∷ es) u v (elim x [ true ↦ some e | false ↦ some d ])) (sym (test-false (later (e .kind) (e .stamp) (d .kind) (d .stamp)) n))
+      (λ n. subst (Is (e ∷ es) u v) (sym (later-one-no e d n))
       (record {
         entry = List·Memᴰ.List·Memᴰ·tail (is .entry);
         operator = is .operator;

@@ -11,9 +11,9 @@ use Rattle.model.specs.declared.Message.{Message}
 use Rattle.model.specs.Layout.{Board}
 use Rattle.model.proofs.Count.{by-test, test-true}
 use Rattle.delivery.specs.Calls.{Call, sent, after, case, delivered}
-use Rattle.delivery.specs.Book.{too-short, valid, valid-ones, entries, latest, written}
+use Rattle.delivery.specs.Book.{too-short, valid, valid-ones, entered, entries, latest, written}
 use Rattle.delivery.proofs.Latest.{AllValid, Covered, Same, valid-append, latest-same}
-use Rattle.delivery.proofs.Run.{valid-in, valid-out, entered, entered-short, entered-long, valid-entered, case-short, case-long, after-written, valid-entries, written-same}
+use Rattle.delivery.proofs.Run.{valid-in, valid-out, entered-short, entered-long, valid-entered, case-short, case-long, after-written, valid-entries, written-same}
 
 -- the valid messages of a list are its valid ones
 valid-ones-sent : (h : Head) (m : Message) (ms : List Message) → List·Memᴰ m (valid-ones h ms) → List·Memᴰ m ms

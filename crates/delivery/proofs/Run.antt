@@ -17,7 +17,7 @@ use Rattle.model.proofs.Count.{by-test, test-true, test-false, or-left, or-righ
 use Rattle.model.proofs.Refusal.{lowest-here, lowest-skip, enough, Accepted, Valid, board-long, short-three, taken-none, message-valid, list-accepted}
 use Rattle.model.proofs.Taken.{by-pair, with-pair-same, with-pair-other, message-taken, message-refused, list-taken, list-refused}
 use Rattle.delivery.specs.Calls.{Lent, lent, Lending, Call, message, messages, sent, lend, take-back, after, run, returned, case}
-use Rattle.delivery.specs.Book.{parts-short, too-short, valid, valid-ones, entries, latest, granted, stamped, filled, written}
+use Rattle.delivery.specs.Book.{parts-short, too-short, valid, valid-ones, entered, entries, latest, granted, stamped, filled, written}
 use Rattle.delivery.proofs.Latest.{valid-test, test-valid, Is, latest-is, AllValid, Same, valid-append, newer, entry-newer, entry-older, entry-other}
 use Rattle.delivery.proofs.Filled.{extend, length-operators, length-rides, length-stamps, length-index, cleared-filled, stamp-filled, accepted-filled, filled-same, after-filled}
 use Rattle.delivery.proofs.Lending.{lent-whole, take-back-same, Laid, take-back-new, parts-short-board}
@@ -168,16 +168,12 @@ module _ (h : Head) (few : h .operators ≤ 200) (few′ : h .rides ≤ 60) (o r
 
 -- ---- one call
 
--- what a call enters
-abbrev pub entered : Head → Call → List Message
-entered h c = elim (too-short h c) [ true ↦ [] | false ↦ valid-ones h (sent c) ]
-
 module _ (h : Head) (c : Call) where
   pub entered-short : T (too-short h c) → entered h c ≡ []
-  entered-short t = ap (λ (b : Bool). elim b [ true ↦ [] | false ↦ valid-ones h (sent c) ]) (test-true (too-short h c) t)
+  entered-short t = rw (test-true (too-short h c) t, entered)
 
   pub entered-long : (T (too-short h c) → ⊥) → entered h c ≡ valid-ones h (sent c)
-  entered-long n = ap (λ (b : Bool). elim b [ true ↦ [] | false ↦ valid-ones h (sent c) ]) (test-false (too-short h c) n)
+  entered-long n = rw (test-false (too-short h c) n, entered)
 
   pub valid-entered : AllValid h (entered h c)
   valid-entered =
