@@ -1,13 +1,12 @@
 -- The board that a build left is the one worked out from the grants of the starting stamp. Assumes nothing.
 use mathlib.Core.Path.{_≡_, refl, sym, ap, ap₂, _∙_, subst}
-use mathlib.Core.Logic.{_⊎_, inl, inr}
+use mathlib.Core.Logic.{inl, inr}
 use mathlib.Core.Bool.{Bool, true, false}
 use mathlib.Core.List.{List, [], _∷_, _++_, map, List·Memᴰ, List·Memᴰ·not-nil, List·Memᴰ·append-cases, List·Memᴰ·eq-of-singleton, Memᴰ·append-left, Memᴰ·append-right}
 use mathlib.Core.Option.{Option, none, some}
-use Prim.Native.Nat.{ℕ, zero, suc, _+_, _-_, _*_, _/_, _%_, _≤_, _<_}
+use Prim.Native.Nat.{ℕ, zero, suc, _-_, _/_, _%_, _≤_, _<_}
 use native.Mathlib.Omega.{arith}
 use native.Mathlib.Decide.{decLt}
-use lib.Dec.{T}
 use lib.ListN.{length, getD, take, drop, replicate, length-append, length-map, length-replicate}
 use lib.Seq.{take-at, length-take-le, getD-take}
 use Rattle.model.specs.declared.Head.{Head}
@@ -15,9 +14,9 @@ use Rattle.model.specs.declared.Message.{Message}
 use Rattle.model.specs.Graph.{Graph, nodes, level, index-of}
 use Rattle.model.specs.Layout.{Board, pair-places, index-places, over, listed, graph, zero-tail}
 use Rattle.model.specs.Refusal.{build-refusal}
-use Rattle.model.specs.Calls.{BuildOutcome, start-stamps, built, board-build}
+use Rattle.model.specs.Calls.{start-stamps, built, board-build}
 use Rattle.model.specs.Message.{pair-numbers, padded}
-use Rattle.model.proofs.Count.{by-test, test-true, test-false, length-rows}
+use Rattle.model.proofs.Count.{test-true, test-false, length-rows}
 use Rattle.model.proofs.Pairs.{pairs-count, pairs-operators, pairs-rides, pairs-fit, listed-place, place-listed}
 use Rattle.model.proofs.Refusal.{AcceptedTable, Valid, build-none}
 use Rattle.delivery.specs.Calls.{built-board}

@@ -1,8 +1,8 @@
 -- Demand 3. Assumes nothing.
-use mathlib.Core.Path.{_≡_, refl, sym, ap, ap₂, _∙_, subst}
-use mathlib.Core.Logic.{_⊎_, inl, inr}
-use mathlib.Core.List.{List, [], _∷_, _++_, List·Memᴰ, List·Memᴰ·append-cases, Memᴰ·append-left, Memᴰ·append-right}
-use Prim.Native.Nat.{ℕ, _≤_}
+use mathlib.Core.Path.{_≡_, sym, ap, ap₂, _∙_, subst}
+use mathlib.Core.Logic.{inl, inr}
+use mathlib.Core.List.{List, _++_, List·Memᴰ, List·Memᴰ·append-cases, Memᴰ·append-left, Memᴰ·append-right}
+use Prim.Native.Nat.{ℕ}
 use native.Mathlib.Omega.{arith}
 use lib.Dec.{T}
 use Rattle.model.specs.declared.Head.{Head}
@@ -11,7 +11,7 @@ use Rattle.model.specs.Layout.{Board}
 use Rattle.model.specs.Refusal.{build-refusal}
 use Rattle.delivery.specs.Calls.{Call, run, built-board, returned, case, delivered}
 use Rattle.delivery.specs.Book.{valid, entries, grants, book, written}
-use Rattle.delivery.specs.Demand.{BoardIsBook, OnlyThree, SameTable, AnyOrder, Demand3}
+use Rattle.delivery.specs.Demand.{BoardIsBook, OnlyThree, AnyOrder, Demand3}
 use Rattle.delivery.proofs.Latest.{test-valid, AllValid, valid-append, latest-laws}
 use Rattle.delivery.proofs.Run.{valid-entries, run-written, case-written, returned-short}
 use Rattle.delivery.proofs.Build.{table, valid-grants, built-written, grants-same}

@@ -1,19 +1,18 @@
 -- Boards filled from clearances and stamps, lent with further words: 1 to 6 do not apply, and a taken message leaves one again. Assumes nothing.
-use mathlib.Core.Path.{_≡_, refl, sym, ap, ap₂, _∙_, subst, subst₂}
-use mathlib.Core.Bool.{Bool, true, false}
-use mathlib.Core.List.{List, [], _∷_, _++_, map}
+use mathlib.Core.Path.{_≡_, sym, ap, ap₂, _∙_, subst, subst₂}
+use mathlib.Core.Bool.{Bool}
+use mathlib.Core.List.{List, _++_, map}
 use Prim.Native.Nat.{ℕ, suc, _+_, _*_, _/_, _%_, _≤_, _<_}
 use native.Mathlib.Omega.{arith}
 use lib.Dec.{T, eqb}
 use lib.Arith.{digits-lt}
-use lib.ListN.{length, getD, drop, set, length-append, length-set, List·getD-append}
+use lib.ListN.{length, getD, set, length-append, length-set, List·getD-append}
 use lib.Seq.{drop-at, set-append-left}
 use Rattle.model.specs.declared.Head.{Head}
 use Rattle.model.specs.declared.Message.{Message}
 use Rattle.model.specs.Count.{rows}
 use Rattle.model.specs.Graph.{Graph, nodes, level, index-of}
 use Rattle.model.specs.Layout.{Board, pair-places, index-places, over}
-use Rattle.model.specs.Refusal.{stamp-place}
 use Rattle.model.specs.Message.{cleared-on, with-pair, pair-numbers, padded, board-of, graph-after, board-after}
 use Rattle.model.specs.Demand.{changed}
 use Rattle.model.proofs.Count.{length-rows, getD-rows, rows-ext}

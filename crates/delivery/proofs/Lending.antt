@@ -1,15 +1,15 @@
 -- Lending: a part that is long enough is whole, its length follows from that of the board's part, and what was not lent stays. Assumes nothing.
-use mathlib.Core.Path.{_≡_, refl, sym, ap, ap₂, _∙_, subst}
-use mathlib.Core.Bool.{Bool, _||_}
-use mathlib.Core.List.{List, [], _∷_, _++_, append-nil, append-assoc}
-use Prim.Native.Nat.{ℕ, _+_, _≤_, _<_, min}
+use mathlib.Core.Path.{_≡_, refl, sym, ap, ap₂, _∙_}
+use mathlib.Core.Bool.{_||_}
+use mathlib.Core.List.{List, [], _++_, append-nil, append-assoc}
+use Prim.Native.Nat.{ℕ, _≤_}
 use native.Mathlib.Omega.{arith}
 use native.Mathlib.Decide.{decLe}
-use lib.Dec.{T, ltb}
+use lib.Dec.{ltb}
 use lib.ListN.{length, take, drop, length-append, length-take, take-append-drop}
 use lib.Seq.{take-all, take-length, take-at, take-append-seam, length-take-le}
 use Rattle.model.specs.declared.Head.{Head}
-use Rattle.model.specs.Layout.{Board, pair-places, index-places, over}
+use Rattle.model.specs.Layout.{Board, pair-places, index-places}
 use Rattle.model.specs.Refusal.{board-short}
 use Rattle.delivery.specs.Calls.{Lent, cut, whole, lent, Lending, lend, back, take-back}
 use Rattle.delivery.specs.Book.{lent-length, parts-short}

@@ -1,7 +1,7 @@
 -- A message list that is not refused ends as its messages sent by message calls, and so does each first part of it. Assumes nothing.
-use mathlib.Core.Path.{_≡_, refl, sym, ap, ap₂, _∙_, subst}
+use mathlib.Core.Path.{_≡_, refl, ap, _∙_}
 use mathlib.Core.List.{List, [], _∷_, _++_}
-use Prim.Native.Nat.{ℕ, zero, suc, _+_, _≤_}
+use Prim.Native.Nat.{ℕ, suc}
 use native.Mathlib.Nat.{zero-add}
 use native.Mathlib.Omega.{arith}
 use lib.ListN.{length, set, drop, length-append}
@@ -9,7 +9,7 @@ use lib.Seq.{sets, sets-eq}
 use Rattle.model.specs.declared.Message.{Message}
 use Rattle.model.specs.Layout.{Board, over}
 use Rattle.model.specs.Refusal.{list-refusal}
-use Rattle.model.specs.Message.{board-message, ListOutcome, in-order, board-messages}
+use Rattle.model.specs.Message.{board-message, in-order, board-messages}
 use Rattle.model.proofs.Refusal.{list-none, list-accepted}
 use Rattle.model.proofs.Taken.{list-taken, list-keeps}
 use Rattle.delivery.specs.Demand.{board-by-calls, numbers-by-calls, ListIsCalls}

@@ -1,6 +1,6 @@
 -- How levels move where a message is taken, on any board. Assumes nothing.
-use mathlib.Core.Path.{_≡_, refl, sym, ap, _∙_, subst}
-use mathlib.Core.Bool.{Bool, true, false}
+use mathlib.Core.Path.{_≡_, sym, ap, _∙_, subst}
+use mathlib.Core.Bool.{true, false}
 use Prim.Native.Nat.{ℕ, _<_}
 use native.Mathlib.Omega.{arith}
 use lib.Dec.{eqb}
@@ -9,7 +9,7 @@ use Rattle.model.specs.declared.Message.{Message}
 use Rattle.model.specs.Layout.{Board}
 use Rattle.model.specs.Refusal.{message-refusal}
 use Rattle.model.specs.Message.{cleared-on, board-of, MessageOutcome, board-after, board-message}
-use Rattle.model.specs.Demand.{Added, OneMove}
+use Rattle.model.specs.Demand.{OneMove}
 use Rattle.model.proofs.Change.{one-pair}
 use Rattle.model.proofs.Refusal.{Valid, taken-none}
 use Rattle.model.proofs.Taken.{with-pair-same, with-pair-other, message-taken, cleared-after}

@@ -1,19 +1,18 @@
 -- Two lists that deliver the same valid messages leave the same board. Assumes nothing.
-use mathlib.Core.Path.{_≡_, refl, sym, ap, _∙_, subst}
-use mathlib.Core.Logic.{_↔_, _⊎_, inl, inr}
-use mathlib.Core.Bool.{Bool, true, false}
+use mathlib.Core.Path.{_≡_, sym, ap, subst}
+use mathlib.Core.Logic.{inl, inr}
 use mathlib.Core.List.{List, [], _∷_, _++_, List·Memᴰ, List·Memᴰ·cases-cons, List·Memᴰ·not-nil, List·Memᴰ·append-cases, Memᴰ·append-left, Memᴰ·append-right}
-use Prim.Native.Nat.{ℕ, zero, suc, _≤_, _<_}
+use Prim.Native.Nat.{ℕ, zero, suc, _≤_}
 use native.Mathlib.Omega.{arith}
 use lib.Dec.{T}
 use Rattle.model.specs.declared.Head.{Head}
 use Rattle.model.specs.declared.Message.{Message}
 use Rattle.model.specs.Layout.{Board}
-use Rattle.model.proofs.Count.{by-test, test-true}
+use Rattle.model.proofs.Count.{by-test}
 use Rattle.delivery.specs.Calls.{Call, sent, after, case, delivered}
-use Rattle.delivery.specs.Book.{too-short, valid, valid-ones, entered, entries, latest, written}
-use Rattle.delivery.proofs.Latest.{AllValid, Covered, Same, valid-append, latest-same}
-use Rattle.delivery.proofs.Run.{valid-in, valid-out, entered-short, entered-long, valid-entered, case-short, case-long, after-written, valid-entries, written-same}
+use Rattle.delivery.specs.Book.{too-short, valid, valid-ones, entered, entries, written}
+use Rattle.delivery.proofs.Latest.{AllValid, valid-append, latest-same}
+use Rattle.delivery.proofs.Run.{valid-in, valid-out, entered-short, entered-long, valid-entered, case-short, case-long, after-written, written-same}
 
 -- the valid messages of a list are its valid ones
 valid-ones-sent : (h : Head) (m : Message) (ms : List Message) → List·Memᴰ m (valid-ones h ms) → List·Memᴰ m ms

@@ -1,22 +1,22 @@
 -- The board after calls is the one worked out from the book: one message, the messages of a list, one call, a list of calls. Assumes nothing.
 use mathlib.Core.Path.{_≡_, refl, sym, ap, ap₂, _∙_, subst, subst₂}
-use mathlib.Core.Logic.{_⊎_, inl, inr}
-use mathlib.Core.Bool.{Bool, true, false, _&&_, _||_, not}
+use mathlib.Core.Logic.{inl, inr}
+use mathlib.Core.Bool.{Bool, true, false, _||_, not}
 use mathlib.Core.List.{List, [], _∷_, _++_, append-nil, append-assoc, List·Memᴰ, List·Memᴰ·cases-cons, List·Memᴰ·not-nil}
 use mathlib.Core.Option.{Option, none, some}
-use Prim.Native.Nat.{ℕ, zero, suc, _+_, _*_, _≤_, _<_}
+use Prim.Native.Nat.{ℕ, zero, suc, _≤_, _<_}
 use native.Mathlib.Omega.{arith}
 use lib.Dec.{T, ltb, eqb, T-not, not-T}
-use lib.ListN.{length, getD, set}
+use lib.ListN.{length, set}
 use Rattle.model.specs.declared.Head.{Head}
 use Rattle.model.specs.declared.Message.{Message}
-use Rattle.model.specs.Layout.{Board, pair-places, index-places}
-use Rattle.model.specs.Refusal.{refused-3, refused-7, refused-8, refused-9, refused-10, later, last-kind, lowest-number, board-short, message-refusal, list-refusal}
-use Rattle.model.specs.Message.{cleared-on, with-pair, board-after, MessageOutcome, board-message, ListOutcome, in-order, board-messages}
+use Rattle.model.specs.Layout.{Board}
+use Rattle.model.specs.Refusal.{refused-3, refused-10, later, last-kind, lowest-number, board-short, message-refusal, list-refusal}
+use Rattle.model.specs.Message.{with-pair, MessageOutcome, board-message, ListOutcome, in-order}
 use Rattle.model.proofs.Count.{by-test, test-true, test-false, or-left, or-right, or-cases}
 use Rattle.model.proofs.Refusal.{lowest-here, lowest-skip, enough, Accepted, Valid, board-long, short-three, taken-none, message-valid, list-accepted}
 use Rattle.model.proofs.Taken.{by-pair, with-pair-same, with-pair-other, message-taken, message-refused, list-taken, list-refused}
-use Rattle.delivery.specs.Calls.{Lent, lent, Lending, Call, message, messages, sent, lend, take-back, after, run, returned, case}
+use Rattle.delivery.specs.Calls.{Lending, Call, message, messages, sent, lend, take-back, after, run, returned, case}
 use Rattle.delivery.specs.Book.{parts-short, too-short, valid, valid-ones, entered, entries, latest, granted, stamped, filled, written}
 use Rattle.delivery.proofs.Latest.{valid-test, test-valid, Is, latest-is, AllValid, Same, valid-append, newer, entry-newer, entry-older, entry-other}
 use Rattle.delivery.proofs.Filled.{extend, length-operators, length-rides, length-stamps, length-index, cleared-filled, stamp-filled, accepted-filled, filled-same, after-filled}

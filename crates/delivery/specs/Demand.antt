@@ -1,9 +1,9 @@
 -- Demand 3, as statements: proofs/ proves each of them.
 use mathlib.Core.Path.{_≡_}
 use mathlib.Core.Logic.{_↔_}
-use mathlib.Core.Bool.{Bool, true, false}
+use mathlib.Core.Bool.{true, false}
 use mathlib.Core.List.{List, [], _∷_, _++_, List·Memᴰ}
-use mathlib.Core.Option.{Option, none, some}
+use mathlib.Core.Option.{none, some}
 use Prim.Native.Nat.{ℕ}
 use lib.Dec.{T}
 use lib.ListN.{length, take}
@@ -12,7 +12,7 @@ use Rattle.model.specs.declared.Message.{Message}
 use Rattle.model.specs.Graph.{Graph}
 use Rattle.model.specs.Layout.{Board, over, graph}
 use Rattle.model.specs.Refusal.{later, build-refusal, message-refusal, list-refusal}
-use Rattle.model.specs.Message.{cleared-on, board-message, ListOutcome, board-messages}
+use Rattle.model.specs.Message.{cleared-on, board-message, board-messages}
 use Rattle.model.specs.Demand.{OneMove}
 use Rattle.delivery.specs.Calls.{Call, run, built-board, returned, case, delivered}
 use Rattle.delivery.specs.Book.{too-short, valid, book, latest, written}

@@ -1,7 +1,7 @@
 -- Pair arrays as the ascending enumeration of a clearance relation: the one that is in range, strictly ascending and lists just its pairs.
 -- Assumes nothing.
 use mathlib.Core.Path.{_≡_, refl, sym, ap, ap₂, _∙_, subst, subst₂}
-use mathlib.Core.Bool.{Bool, true, false, _&&_, _||_, not}
+use mathlib.Core.Bool.{Bool, true, false, _&&_, _||_}
 use mathlib.Core.List.{List, [], _∷_, _++_, map, map-append}
 use Prim.Native.Nat.{ℕ, zero, suc, _+_, _-_, _*_, _/_, _%_, _≤_, _<_}
 use native.Mathlib.Nat.{mul-zero, mod-lt, div-lt-iff-lt-mul, div-add-mod'}
@@ -15,7 +15,7 @@ use Rattle.model.specs.declared.Head.{Head}
 use Rattle.model.specs.Count.{bit, count, values, rows, passing}
 use Rattle.model.specs.Graph.{Graph}
 use Rattle.model.specs.Layout.{pair-at, listed, graph}
-use Rattle.model.specs.Refusal.{before, unordered, out-of-range, refused-5}
+use Rattle.model.specs.Refusal.{before, unordered, out-of-range, misplaced, refused-5}
 use Rattle.model.specs.Message.{pair-numbers, padded}
 use Rattle.model.specs.Demand.{changed}
 use Rattle.model.proofs.Count.{by-test, test-true, test-false, test-ext, and-left, and-right, and-both, or-left, or-right, or-cases, count-le, some-holds, some-witness, length-values, values-ext, length-rows, getD-rows}
@@ -369,20 +369,16 @@ pair-numbers-same g c s =
 -- ---- 4 and 5
 
 module _ (h : Head) (operators rides : List ℕ) where
-  -- the test of 5 at place i
-  abbrev wrong : ℕ → Bool
-  wrong i = out-of-range h (getD operators i 0) (getD rides i 0) || unordered operators rides i
-
-  right : (T (refused-5 h operators rides) → ⊥) → (i : ℕ) → i < h .pairs → T (wrong i) → ⊥
-  unfolding refused-5
-  right n i l t = n (some-holds wrong (h .pairs) i l t)
+  placed : (T (refused-5 h operators rides) → ⊥) → (i : ℕ) → i < h .pairs → T (out-of-range h (getD operators i 0) (getD rides i 0) || unordered operators rides i) → ⊥
+  unfolding misplaced refused-5
+  placed n i l t = n (some-holds (misplaced h operators rides) (h .pairs) i l t)
 
   -- a pair table to which 5 does not apply holds the pairs of its graph
   pub table-pairs : (T (refused-5 h operators rides) → ⊥) → Pairs (graph h operators rides) (h .pairs) operators rides
   table-pairs n =
       let u : ℕ → ℕ = λ i. getD operators i 0 in
       let v : ℕ → ℕ = λ i. getD rides i 0 in
-      let low : (i : ℕ) → i < h .pairs → T (out-of-range h (u i) (v i)) → ⊥ = λ i l t. right n i l (or-left (out-of-range h (u i) (v i)) (unordered operators rides i) t) in
+      let low : (i : ℕ) → i < h .pairs → T (out-of-range h (u i) (v i)) → ⊥ = λ i l t. placed n i l (or-left (out-of-range h (u i) (v i)) (unordered operators rides i) t) in
       let ride : (i : ℕ) → i < h .pairs → v i < h .rides = λ i l. elim (decLt (v i) (h .rides)) [ yes b ↦ b | no b ↦ absurd (low i l (or-right (leb (h .operators) (u i)) (leb (h .rides) (v i)) (le→leb (h .rides) (v i) (omega arith)))) ] in
       record {
         operator = λ i l. elim (decLt (u i) (h .operators)) [ yes b ↦ b | no b ↦ absurd (low i l (or-left (leb (h .operators) (u i)) (leb (h .rides) (v i)) (le→leb (h .operators) (u i) (omega arith)))) ];
@@ -390,7 +386,7 @@ module _ (h : Head) (operators rides : List ℕ) where
         ascending = ascending-steps (number-at (graph h operators rides) operators rides) (h .pairs)
             (λ i l. before-number (h .rides) (u i) (v i) (u (suc i)) (v (suc i)) (ride i (omega arith))
             (by-test (before (u i) (v i) (u (suc i)) (v (suc i))) (λ t. t)
-            (λ o. absurd (right n (suc i) l (or-right (out-of-range h (u (suc i)) (v (suc i))) (unordered operators rides (suc i)) (not-T (before (u i) (v i) (u (suc i)) (v (suc i))) o))))));
+            (λ o. absurd (placed n (suc i) l (or-right (out-of-range h (u (suc i)) (v (suc i))) (unordered operators rides (suc i)) (not-T (before (u i) (v i) (u (suc i)) (v (suc i))) o))))));
         holds = λ i l. place-listed (h .pairs) operators rides (u i) (v i) i l refl refl;
         found = λ a b k l t. listed-place (h .pairs) operators rides a b t;
       }
@@ -410,9 +406,9 @@ module _ (h : Head) (operators rides : List ℕ) where
         (number-before (h .rides) (getD operators i 0) (getD rides i 0) (getD operators (suc i) 0) (getD rides (suc i) 0) (ps .ride (suc i) l) (ps .ascending i (suc i) (omega arith) l))
 
     pub pairs-accepted : T (refused-5 h operators rides) → ⊥
-    unfolding refused-5
+    unfolding misplaced refused-5
     pairs-accepted t =
-        let w = some-witness wrong (h .pairs) t in
+        let w = some-witness (misplaced h operators rides) (h .pairs) t in
         let u : ℕ = getD operators (w .0) 0 in
         let v : ℕ = getD rides (w .0) 0 in
         or-cases (out-of-range h u v) (unordered operators rides (w .0)) (w .2)

@@ -1,8 +1,8 @@
 -- Laws of the numbers 1 to 10: the lowest that applies, boards to which 1 to 6 do not apply, and valid messages. Assumes nothing.
-use mathlib.Core.Path.{_≡_, refl, sym, ap, ap₂, _∙_, subst}
-use mathlib.Core.Bool.{Bool, true, false, _&&_, _||_, not}
+use mathlib.Core.Path.{_≡_, refl, ap₂, _∙_, subst}
+use mathlib.Core.Bool.{Bool, true, false, _||_}
 use mathlib.Core.List.{List, [], _∷_, _++_}
-use Prim.Native.Nat.{ℕ, zero, suc, _+_, _*_, _≤_, _<_}
+use Prim.Native.Nat.{ℕ, suc, _≤_, _<_}
 use native.Mathlib.Omega.{arith}
 use native.Mathlib.Decide.{decLt, decLe, ℕ-discrete}
 use lib.Dec.{T, ltb, leb, eqb, ltb→lt, lt→ltb, leb→le, le→leb, eqb→eq, eqb-refl, T-not, not-T}
@@ -10,9 +10,9 @@ use lib.ListN.{length, getD}
 use Rattle.model.specs.declared.Head.{Head}
 use Rattle.model.specs.declared.Message.{Message}
 use Rattle.model.specs.Layout.{Board, pair-places, index-places, graph}
-use Rattle.model.specs.Refusal.{refused-1, refused-2, refused-3, refused-4, refused-5, refused-6, refused-7, refused-8, refused-9, refused-10, out-of-range, stamp-place, lowest-number, board-short, table-cases, build-refusal, message-refusal, list-refusal}
+use Rattle.model.specs.Refusal.{refused-1, refused-2, refused-3, refused-4, refused-5, refused-6, refused-7, refused-8, refused-9, refused-10, stamp-place, lowest-number, board-short, table-cases, build-refusal, message-refusal, list-refusal}
 use Rattle.model.specs.Message.{cleared-on}
-use Rattle.model.proofs.Count.{by-test, test-true, test-false, or-left, or-right, or-cases, some-holds, some-witness}
+use Rattle.model.proofs.Count.{by-test, or-left, or-right, or-cases, some-holds, some-witness}
 use Rattle.model.proofs.Pairs.{Pairs, listed-place, table-pairs, pairs-fit, pairs-accepted}
 
 -- ---- the lowest number that applies

@@ -1,19 +1,18 @@
 -- Laws of messages on any board: what a taken message leaves listed, and that 1 to 6 do not apply to a board after it. Assumes nothing.
 use mathlib.Core.Path.{_≡_, refl, sym, ap, ap₂, _∙_, subst}
-use mathlib.Core.Bool.{Bool, true, false, _&&_}
-use mathlib.Core.List.{List, [], _∷_, _++_, map}
-use Prim.Native.Nat.{ℕ, zero, suc, _+_, _-_, _*_, _/_, _%_, _≤_, _<_}
+use mathlib.Core.Bool.{Bool, _&&_}
+use mathlib.Core.List.{List, map}
+use Prim.Native.Nat.{ℕ, zero, suc, _+_, _*_, _/_, _%_, _≤_, _<_}
 use native.Mathlib.Omega.{arith}
 use native.Mathlib.Decide.{ℕ-discrete}
 use lib.Dec.{T, eqb, eqb→eq, eqb-refl}
 use lib.Arith.{digits-lt}
 use lib.ListN.{length, getD, drop, set, length-append, length-set}
 use lib.Seq.{getD-set-same, getD-set-other}
-use Rattle.model.specs.declared.Head.{Head}
 use Rattle.model.specs.declared.Message.{Message}
-use Rattle.model.specs.Graph.{Graph, nodes, level, index-of}
-use Rattle.model.specs.Layout.{Board, pair-places, index-places, over, listed, graph, differing}
-use Rattle.model.specs.Refusal.{stamp-place, refused-10, message-refusal, list-refusal}
+use Rattle.model.specs.Graph.{nodes, level, index-of}
+use Rattle.model.specs.Layout.{Board, pair-places, index-places, over, differing}
+use Rattle.model.specs.Refusal.{stamp-place, message-refusal, list-refusal}
 use Rattle.model.specs.Message.{cleared-on, with-pair, pair-numbers, padded, board-of, MessageOutcome, graph-after, board-after, board-message, in-order, board-messages}
 use Rattle.model.proofs.Count.{test-true, test-false, and-left, and-right, and-both, length-rows}
 use Rattle.model.proofs.Pairs.{Pairs, number-same, pairs-padded, pairs-listed, pairs-in-range, pairs-accepted, length-padded, table-pairs}
