@@ -19,7 +19,7 @@ abbrev pub lent-length : ℕ → Lent → ℕ
 lent-length places (Lent.cut n) = min n places
 lent-length places (Lent.whole more) = places + length more
 
--- case 3, by the lengths of what is lent: a part of the board, or the answer list, is too short
+-- a part of the board is lent too short, by the lengths
 abbrev pub parts-short : Head → Lending → Bool
 parts-short h l =
     ltb (lent-length (pair-places h) (l .operators)) (pair-places h) ||
@@ -27,6 +27,7 @@ parts-short h l =
     ltb (lent-length (pair-places h) (l .stamps)) (pair-places h) ||
     ltb (lent-length (index-places h) (l .index)) (index-places h)
 
+-- case 3 of a call, by the lengths of what is lent: a part of the board or the answer list is too short
 unfoldable pub too-short : Head → Call → Bool
 too-short h (Call.message l m) = parts-short h l
 too-short h (Call.messages l ms answers) = parts-short h l || ltb (length answers) (length ms)
