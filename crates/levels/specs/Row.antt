@@ -7,7 +7,7 @@ use Prim.Native.Nat.{ℕ, _+_, _-_, _*_, _≤_, _<_}
 use lib.Dec.{T, ltb, leb}
 use lib.ListN.{length, getD, set}
 use Rattle.model.specs.Count.{bit, count}
-use Rattle.model.specs.Graph.{Graph, nodes, Inside, marked, cover, level}
+use Rattle.model.specs.Graph.{Graph, nodes, degree, everybody, Inside, marked, cover, level}
 use Rattle.tables.specs.Table.{Table}
 
 -- row i and column j of the table are joined
@@ -90,3 +90,22 @@ pub record Rounded (g : Graph) (α β : ℕ) (operators : List ℕ) (r : ℕ) (w
   pub raising : Raising g α β w
   pub fewer : count (g .operators) (marked (w .operators)) + r ≡ count (g .operators) (marked operators)
   pub settled : r ≡ 0 → Settled g α β w
+
+-- r is the lower of low and the degree of a node, where it is kept
+pub record Lower (kept degree low r : ℕ) : Type 0 where
+  pub low-bound : r ≤ low
+  pub degree-bound : kept ≡ 1 → r ≤ degree
+  pub lowest : (b : ℕ) → b ≤ low → (kept ≡ 1 → b ≤ degree) → b ≤ r
+
+-- r is the least degree of those kept of a side, or 255 where none is kept
+pub record Least (size : ℕ) (kept degrees : List ℕ) (r : ℕ) : Type 0 where
+  pub bound : r ≤ 255
+  pub low : (v : ℕ) → v < size → T (marked kept v) → r ≤ getD degrees v 0
+  pub lowest : (b : ℕ) → b ≤ 255 → ((v : ℕ) → v < size → T (marked kept v) → b ≤ getD degrees v 0) → b ≤ r
+
+-- all nodes are kept, and degrees are those inside everybody
+pub record Start (g : Graph) (w : Work) : Type 0 where
+  pub operators : (u : ℕ) → u < g .operators → T (marked (w .operators) u)
+  pub rides : (v : ℕ) → v < g .rides → T (marked (w .rides) v)
+  pub operator-degrees : (u : ℕ) → u < g .operators → getD (w .operator-degrees) u 0 ≡ degree g everybody u
+  pub ride-degrees : (v : ℕ) → v < g .rides → getD (w .ride-degrees) v 0 ≡ degree g everybody (g .operators + v)

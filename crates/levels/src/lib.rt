@@ -3,7 +3,8 @@ ghost use mathlib.Core.Path.{_≡_};
 ghost use mathlib.Core.List.{List};
 ghost use Prim.Native.Nat.{ℕ, _+_, _-_, _*_, _<_, _≤_};
 ghost use lib.ListN.{length, getD, set};
-ghost use Rattle.levels.specs.Row.{Side, Visited, Swept, Work, work, table-graph, Fits, Raising, Settled, Rounded};
+ghost use Rattle.model.specs.Graph.{row as levels-row};
+ghost use Rattle.levels.specs.Row.{Side, Visited, Swept, Work, work, table-graph, Fits, Raising, Settled, Rounded, Lower, Least, Start};
 
 // Subtracts a row of a table from the degrees.
 fn subtract(degrees: &mut [u8], row: &[u8])
@@ -145,5 +146,69 @@ fn settle(
         {
             return;
         }
+    }
+}
+
+// The lower of low and the degree of a node, where it is kept.
+fn lower(kept: u8, degree: u8, low: u8) -> u8
+    ensures { λ r. ⌜ Lower kept degree low r ⌝ }
+{
+    if kept != 1 {
+        return low;
+    }
+    if low <= degree {
+        return low;
+    }
+    degree
+}
+
+// The least degree of those kept, 255 where none is.
+fn least(kept: &[u8], degrees: &[u8]) -> u8
+    requires { ⌜ length (now kept) ≤ length (now degrees) ⌝ }
+    ensures { λ r. ⌜ Least (length (now (kept .entry))) (now (kept .entry)) (now (degrees .entry)) r ⌝ }
+{
+    let n = kept.len();
+    let mut low: u8 = 255;
+    let mut i = 0;
+    while i < n {
+        low = lower(kept[i], degrees[i], low);
+        i += 1;
+    }
+    low
+}
+
+// The row of alpha from all nodes kept: beta is raised to one more than the least degree of a ride, until no ride is kept.
+fn raise(
+    operators: &mut [u8],
+    operator_degrees: &mut [u8],
+    rides: &mut [u8],
+    ride_degrees: &mut [u8],
+    row: &mut [u16],
+    by_operator: &[u8],
+    by_ride: &[u8],
+    alpha: u8,
+)
+    requires { ⌜ (1 ≤ alpha) × Fits (length (now operators)) (length (now rides)) (now «by_operator») (now «by_ride») (work (now operators) (now «operator_degrees») (now rides) (now «ride_degrees») (now row)) ⌝ }
+    requires { ⌜ Start (table-graph (length (now operators)) (length (now rides)) (now «by_operator»)) (work (now operators) (now «operator_degrees») (now rides) (now «ride_degrees») (now row)) ⌝ }
+    ensures { λ _. ⌜ now (row .exit) ≡ levels-row (table-graph (length (now (operators .entry))) (length (now (rides .entry))) (now («by_operator» .entry))) alpha ⌝ }
+{
+    let mut beta: u8 = 1;
+    loop {
+        settle(
+            operators,
+            operator_degrees,
+            rides,
+            ride_degrees,
+            row,
+            by_operator,
+            by_ride,
+            alpha,
+            beta,
+        );
+        let low = least(rides, ride_degrees);
+        if low == 255 {
+            return;
+        }
+        beta = low + 1;
     }
 }

@@ -3,7 +3,7 @@ use Prim.Native.Nat.{ℕ, _+_, _≤_, _<_, _-_}
 use mathlib.Core.Path.{_≡_, refl, sym, ap, _∙_, subst}
 use native.Mathlib.Omega.{arith}
 use lib.ListN.{length, getD}
-use Rattle.levels.proofs.Raise.{rides-part, operators-part, rounded}
+use Rattle.levels.proofs.Raising.{rides-part, operators-part, rounded}
 use Rattle.levels.proofs.round.Statement.{statement}
 use Rattle.levels.proofs.round.Tie as tie
 use Rattle.levels.proofs.round.Reads as reads

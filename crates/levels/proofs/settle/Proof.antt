@@ -2,7 +2,7 @@ use borrow.Author.Needs.{needs}
 use mathlib.Core.Path.{subst₂}
 use Rattle.model.specs.Graph.{Graph}
 use Rattle.levels.specs.Row.{Rounded}
-use Rattle.levels.proofs.Raise.{fits-again}
+use Rattle.levels.proofs.Raising.{fits-again}
 use Prim.Native.Nat.{ℕ, _+_, _≤_, _<_, _-_}
 use mathlib.Core.Path.{_≡_, refl, sym, ap, _∙_, subst}
 use native.Mathlib.Omega.{arith}

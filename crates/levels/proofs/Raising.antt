@@ -1,25 +1,25 @@
 -- Raising β: what a sweep of the rides and a sweep of the operators keep true. Assumes nothing.
-use mathlib.Core.Path.{_≡_, refl, sym, ap, _∙_, subst}
+use mathlib.Core.Path.{_≡_, refl, sym, ap, ap₂, _∙_, subst}
 use mathlib.Core.Logic.{_⊎_, inl, inr, ⊎-elim}
 use mathlib.Core.Bool.{Bool, true, false, _&&_}
 use mathlib.Core.List.{List, _++_}
 use Prim.Native.Nat.{ℕ, _+_, _-_, _*_, _≤_, _<_}
 use native.Mathlib.Omega.{arith}
 use native.Mathlib.Decide.{decLt, decLe}
-use lib.Dec.{T, ltb, leb, eqb, ltb→lt, lt→ltb, leb→le, le→leb}
+use lib.Dec.{T, ltb, leb, eqb, ltb→lt, lt→ltb, leb→le, le→leb, eqb→eq}
 use borrow.Author.Tests.{lt-ltb, le-ltb, le-leb, lt-leb}
 use lib.ListN.{length, getD, take, drop, length-take}
-use lib.Seq.{getD-take}
+use lib.Seq.{getD-take, ext-getD}
 use borrow.Rule.Slice.PartMut.{same-len-mid}
-use Rattle.model.specs.Count.{bit, count}
-use Rattle.model.specs.Graph.{Graph, nodes, degree, Inside, Meets, limits, marked, cover, level}
-use Rattle.model.proofs.Count.{bit-test, by-test, test-true, test-false, test-ext, and-left, and-right, and-both, count-ext, count-pos, count-add}
+use Rattle.model.specs.Count.{bit, count, values}
+use Rattle.model.specs.Graph.{Graph, nodes, degree, everybody, Inside, Meets, limits, marked, cover, level, row}
+use Rattle.model.proofs.Count.{bit-test, by-test, test-true, test-false, test-ext, and-left, and-right, and-both, count-le, count-ext, count-pos, count-witness, count-add, length-values, getD-values}
 use Rattle.model.proofs.Peel.{degree-operator, degree-ride, degree-mono}
-use Rattle.model.proofs.Cover.{limits-operator, limits-ride, cover-core, cover-holds}
+use Rattle.model.proofs.Cover.{limits-operator, limits-ride, cover-core, cover-holds, cover-laws}
 use Rattle.model.proofs.Level.{level-holds, level-largest, level-in}
 use Rattle.model.proofs.Store.{part-length, part-at, put-before, put-at, front-at, front-after}
 use Rattle.tables.specs.Table.{Table}
-use Rattle.levels.specs.Row.{joined, falls, Side, Swept, table-graph, kept-set, Work, work, Fits, Raising, Settled, Rounded}
+use Rattle.levels.specs.Row.{joined, falls, Side, Swept, table-graph, kept-set, Work, work, Fits, Raising, Settled, Rounded, Lower, Least, Start}
 
 -- ---- the set of the nodes kept
 
@@ -386,3 +386,94 @@ module _ (n m : ℕ) (t t′ : List ℕ) (w w′ : Work) (fits : Fits n m t t′
         by-operator-bits = fits .by-operator-bits;
         by-ride-bits = fits .by-ride-bits;
       }
+
+-- ---- the least degree
+
+module _ (kept degrees : List ℕ) where
+  pub least-none : Least 0 kept degrees 255
+  least-none = record { bound = omega arith; low = λ v h t. absurd (let z : ⊥ = omega arith in z); lowest = λ b h f. h }
+
+  pub least-more : (i low r : ℕ) → Least i kept degrees low → Lower (getD kept i 0) (getD degrees i 0) low r → Least (i + 1) kept degrees r
+  least-more i low r least lower =
+      record {
+        bound = omega (arith, least .bound, lower .low-bound);
+        low = λ v h t.
+            elim (decLt v i) [
+              | yes l ↦ omega (arith, least .low v l t, lower .low-bound)
+              | no l ↦ (let e : v ≡ i = omega arith in subst (λ (z : ℕ). r ≤ getD degrees z 0) (sym e) (lower .degree-bound (eqb→eq (getD kept i 0) 1 (subst (λ (z : ℕ). T (marked kept z)) e t))))
+            ];
+        lowest = λ b h f. lower .lowest b (least .lowest b h (λ v l. f v (omega arith))) (λ e. f i (omega arith) (subst (λ (z : ℕ). T (eqb z 1)) (sym e) tt));
+      }
+
+-- ---- from one β to the next, from the start to the end
+
+module _ (n m : ℕ) (t t′ : List ℕ) (α : ℕ) (a : 1 ≤ α) (w : Work) (fits : Fits n m t t′ w) where
+  abbrev gʳ : Graph
+  gʳ = table-graph n m t
+
+  pub raising-start : Start gʳ w → Raising gʳ α 1 w
+  raising-start start =
+      record {
+        operator-degrees = λ u h. start .operator-degrees u h ∙ degree-operator gʳ everybody u h ∙ count-ext (λ (v : ℕ). joined t 60 u v && true) (λ (v : ℕ). joined t 60 u v && marked (w .rides) v) m (λ v l. ap (λ (z : Bool). joined t 60 u v && z) (sym (test-true (marked (w .rides) v) (start .rides v l))));
+        ride-degrees = λ v h. start .ride-degrees v h ∙ degree-ride gʳ everybody (n + v) (omega arith) ∙ count-ext (λ (u : ℕ). joined t 60 u (n + v - n) && true) (λ (u : ℕ). joined t 60 u v && marked (w .operators) u) n (λ u l. ap₂ (λ (y : ℕ) (z : Bool). joined t 60 u y && z) (let e : n + v - n ≡ v = omega arith in e) (sym (test-true (marked (w .operators) u) (start .operators u l))));
+        holds = λ x h c. all x h;
+        within = λ l. absurd (let z : ⊥ = omega arith in z);
+        levels = λ x h f. absurd (f (all x h));
+      }
+    where
+      all : (x : ℕ) → x < n + m → T (kept-set n (w .operators) (w .rides) x)
+      all x h =
+          elim (decLt x n) [
+            | yes l ↦ subst T (sym (kept-operator n (w .operators) (w .rides) x l)) (start .operators x l)
+            | no l ↦ subst T (sym (kept-ride n (w .operators) (w .rides) x (omega arith))) (start .rides (x - n) (omega arith))
+          ]
+
+  module _ (β : ℕ) (b : 1 ≤ β) (raising : Raising gʳ α β w) (settled : Settled gʳ α β w) (r : ℕ) (least : Least m (w .rides) (w .ride-degrees) r) where
+    pub least-high : β ≤ 255 → β ≤ r
+    least-high k = least .lowest β k (settled .rides)
+
+    -- the nodes kept meet (α, r)
+    least-meets : Meets gʳ (limits gʳ α r) (kept-set n (w .operators) (w .rides))
+    least-meets x h k =
+        elim (decLt x n) [
+          | yes l ↦ omega (arith, limits-operator gʳ α r x l, work-operator gʳ α β w raising x l, settled .operators x l (subst T (kept-operator n (w .operators) (w .rides) x l) k))
+          | no l ↦ omega (arith, limits-ride gʳ α r x (omega arith), work-ride gʳ α β w raising x (omega arith) h, least .low (x - n) (omega arith) (subst T (kept-ride n (w .operators) (w .rides) x (omega arith)) k))
+        ]
+
+    pub raising-next : β ≤ r → Raising gʳ α (r + 1) w
+    raising-next l =
+        record {
+          operator-degrees = raising .operator-degrees;
+          ride-degrees = raising .ride-degrees;
+          holds = λ x h c. raising .holds x h (cover-laws .nest gʳ α α β (r + 1) (omega arith) (omega arith) x h c);
+          within = λ z x h k. subst (λ (y : ℕ). T (marked (cover gʳ α y) x)) (let e : r ≡ r + 1 - 1 = omega arith in e) (cover-holds gʳ α r (kept-set n (w .operators) (w .rides)) least-meets x h k);
+          levels = raising .levels;
+        }
+
+    -- no ride is kept, and so nobody
+    module _ (last : r ≡ 255) where
+      no-ride : (v : ℕ) → v < m → T (marked (w .rides) v) → ⊥
+      no-ride v h k =
+          omega (
+            arith,
+            least .low v h k,
+            raising .ride-degrees v h,
+            count-le (λ (u : ℕ). joined t 60 u v && marked (w .operators) u) n,
+            fits .by-ride-bits .wide,
+          )
+
+      nobody : (x : ℕ) → x < n + m → T (kept-set n (w .operators) (w .rides) x) → ⊥
+      nobody x h k =
+          elim (decLt x n) [
+            | yes l ↦
+                (let p : 0 < count m (λ (v : ℕ). joined t 60 x v && marked (w .rides) v) = omega (arith, settled .operators x l (subst T (kept-operator n (w .operators) (w .rides) x l) k), raising .operator-degrees x l) in
+                let y = count-witness (λ (v : ℕ). joined t 60 x v && marked (w .rides) v) m p in
+                no-ride (y .0) (y .1) (and-right (joined t 60 x (y .0)) (marked (w .rides) (y .0)) (y .2)))
+            | no l ↦ no-ride (x - n) (omega arith) (subst T (kept-ride n (w .operators) (w .rides) x (omega arith)) k)
+          ]
+
+      pub raising-end : w .levels ≡ row gʳ α
+      unfolding row
+      raising-end =
+          ext-getD 0 (w .levels) (values (n + m) (level gʳ α)) (fits .levels ∙ sym (length-values (level gʳ α) (n + m)))
+          (λ x h. raising .levels x (omega (arith, fits .levels)) (nobody x (omega (arith, fits .levels))) ∙ sym (getD-values (level gʳ α) (n + m) x 0 (omega (arith, fits .levels))))
