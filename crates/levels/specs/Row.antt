@@ -109,3 +109,13 @@ pub record Start (g : Graph) (w : Work) : Type 0 where
   pub rides : (v : ℕ) → v < g .rides → T (marked (w .rides) v)
   pub operator-degrees : (u : ℕ) → u < g .operators → getD (w .operator-degrees) u 0 ≡ degree g everybody u
   pub ride-degrees : (v : ℕ) → v < g .rides → getD (w .ride-degrees) v 0 ≡ degree g everybody (g .operators + v)
+
+-- the first places hold the degrees of n operators, and of m rides, inside everybody
+pub record Everybody (g : Graph) (operators rides : List ℕ) : Type 0 where
+  pub operator-degrees : (u : ℕ) → u < g .operators → getD operators u 0 ≡ degree g everybody u
+  pub ride-degrees : (v : ℕ) → v < g .rides → getD rides v 0 ≡ degree g everybody (g .operators + v)
+
+-- two tables of the same clearances, by operator and by ride, of n operators and m rides
+pub record Tables (n m : ℕ) (by-operator by-ride : List ℕ) : Type 0 where
+  pub by-operator-bits : Table (joined by-operator 60) n m 60 by-operator
+  pub by-ride-bits : Table (λ v u. joined by-operator 60 u v) m n 200 by-ride

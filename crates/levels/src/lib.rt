@@ -3,8 +3,13 @@ ghost use mathlib.Core.Path.{_≡_};
 ghost use mathlib.Core.List.{List};
 ghost use Prim.Native.Nat.{ℕ, _+_, _-_, _*_, _<_, _≤_};
 ghost use lib.ListN.{length, getD, set};
+ghost use mathlib.Core.Bool.{not};
+ghost use lib.Dec.{eqb};
+ghost use Rattle.model.specs.Count.{bit, count};
 ghost use Rattle.model.specs.Graph.{row as levels-row};
-ghost use Rattle.levels.specs.Row.{Side, Visited, Swept, Work, work, table-graph, Fits, Raising, Settled, Rounded, Lower, Least, Start};
+ghost use Rattle.model.specs.Layout.{over, differing};
+ghost use Rattle.tables.specs.Table.{Table};
+ghost use Rattle.levels.specs.Row.{Side, Visited, Swept, Work, work, table-graph, Fits, Raising, Settled, Rounded, Lower, Least, Start, Everybody, Tables, joined};
 
 // Subtracts a row of a table from the degrees.
 fn subtract(degrees: &mut [u8], row: &[u8])
@@ -211,4 +216,90 @@ fn raise(
         }
         beta = low + 1;
     }
+}
+
+// Adds a row of a table to the degrees.
+fn add(degrees: &mut [u8], row: &[u8])
+    requires { ⌜ length (now degrees) ≤ length (now row) ⌝ }
+    requires { ⌜ ((j : ℕ) → j < length (now degrees) → getD (now degrees) j 0 + getD (now row) j 0 ≤ 255) ⌝ }
+    ensures { λ _. ⌜ ((j : ℕ) → j < length (now (degrees .entry)) → getD (now (degrees .exit)) j 0 ≡ getD (now (degrees .entry)) j 0 + getD (now (row .entry)) j 0) ⌝ }
+{
+    let n = degrees.len();
+    let mut j = 0;
+    while j < n {
+        degrees[j] = degrees[j] + row[j];
+        j += 1;
+    }
+}
+
+// The degrees of the columns of a table: how many of its rows each is joined with.
+fn add_rows(degrees: &mut [u8], table: &[u8], width: usize, height: usize)
+    requires { ⌜ Table (joined (now table) width) height (length (now degrees)) width (now table) × (height ≤ 255) ⌝ }
+    requires { ⌜ ((j : ℕ) → j < length (now degrees) → getD (now degrees) j 0 ≡ 0) ⌝ }
+    ensures { λ _. ⌜ ((j : ℕ) → j < length (now (degrees .entry)) → getD (now (degrees .exit)) j 0 ≡ count height (λ i. joined (now (table .entry)) width i j)) ⌝ }
+{
+    let n = degrees.len();
+    let mut i = 0;
+    while i < height {
+        let at = i * width;
+        let end = at + n;
+        add(degrees, &table[at..end]);
+        i += 1;
+    }
+}
+
+// The higher of two degrees.
+fn higher(a: u8, b: u8) -> u8
+    ensures { λ r. ⌜ (a ≤ r) × (b ≤ r) ⌝ }
+{
+    if a < b { b } else { a }
+}
+
+// The largest of the degrees.
+fn largest(degrees: &[u8]) -> u8
+    ensures { λ r. ⌜ ((i : ℕ) → i < length (now (degrees .entry)) → getD (now (degrees .entry)) i 0 ≤ r) ⌝ }
+{
+    let n = degrees.len();
+    let mut high = 0;
+    let mut i = 0;
+    while i < n {
+        high = higher(high, degrees[i]);
+        i += 1;
+    }
+    high
+}
+
+// Zeroes a row.
+fn clear(row: &mut [u16])
+    ensures { λ _. ⌜ ((i : ℕ) → i < length (now (row .entry)) → getD (now (row .exit)) i 0 ≡ 0) ⌝ }
+{
+    let n = row.len();
+    let mut i = 0;
+    while i < n {
+        row[i] = 0;
+        i += 1;
+    }
+}
+
+// 1 where two words differ.
+fn unequal(a: u16, b: u16) -> u16
+    ensures { λ r. ⌜ r ≡ bit (not (eqb a b)) ⌝ }
+{
+    if a == b { 0 } else { 1 }
+}
+
+// Stores a row, and counts the words that differ.
+fn store(part: &mut [u16], row: &[u16]) -> u16
+    requires { ⌜ (length (now part) ≡ length (now row)) × (length (now row) ≤ 260) ⌝ }
+    ensures { λ r. ⌜ (now (part .exit) ≡ now (row .entry)) × (r ≡ differing (length (now (row .entry))) (now (part .entry)) (now (row .entry))) ⌝ }
+{
+    let n = part.len();
+    let mut differ = 0;
+    let mut i = 0;
+    while i < n {
+        differ += unequal(part[i], row[i]);
+        part[i] = row[i];
+        i += 1;
+    }
+    differ
 }

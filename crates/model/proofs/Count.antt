@@ -81,6 +81,10 @@ module _ (p : ℕ → Bool) where
   count-le zero = omega arith
   count-le (suc k) = omega (arith, count-le k, bit-le (p k))
 
+  pub count-none : count 0 p ≡ 0
+  unfolding count
+  count-none = refl
+
   -- one number more
   pub count-more : (k : ℕ) → count (k + 1) p ≡ count k p + bit (p k)
   unfolding count

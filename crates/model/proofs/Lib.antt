@@ -1,5 +1,6 @@
 pub mod Count
 pub mod Store
+pub mod Differ
 pub mod Peel
 pub mod Cover
 pub mod Level

@@ -1,0 +1,91 @@
+use borrow.Author.Needs.{needs}
+use Prim.Native.Nat.{ℕ, _+_, _≤_, _<_, _-_}
+use mathlib.Core.Path.{_≡_, refl, sym, ap, _∙_, subst}
+use native.Mathlib.Omega.{arith}
+use lib.ListN.{length, getD, length-set}
+use Rattle.model.proofs.Store.{stored, left-alone}
+use Rattle.levels.proofs.add.Statement.{statement}
+use Rattle.levels.proofs.add.Tie as tie
+use Rattle.levels.proofs.add.Reads as reads
+use Rattle.levels.proofs.add.Lts as lts
+
+abbrev Inv-loop : tie.InvT-loop
+Inv-loop degrees₀ row n j₀ degrees j =
+    (j ≤ n) ×
+    (n ≡ length degrees₀) ×
+    (length degrees ≡ length degrees₀) ×
+    ((k : ℕ) → k < j → getD degrees k 0 ≡ getD degrees₀ k 0 + getD row k 0) ×
+    ((k : ℕ) → j ≤ k → getD degrees k 0 ≡ getD degrees₀ k 0)
+
+abbrev μ-loop : tie.MeasureT-loop
+μ-loop degrees₀ row n j₀ degrees j =
+    n - j
+
+-- src/lib.rt:227:5
+loop-holds : tie.Need-loop-holds Inv-loop μ-loop
+loop-holds c = (omega arith, refl, refl, (λ k l. absurd (let z : ⊥ = omega arith in z)), (λ k l. refl))
+
+-- src/lib.rt:228:22
+slice-read-degrees : tie.Need-slice-read-degrees Inv-loop μ-loop
+slice-read-degrees c = search needs
+
+-- src/lib.rt:228:35
+shared-slice-read-degrees : tie.Need-shared-slice-read-degrees Inv-loop μ-loop
+shared-slice-read-degrees c = search needs
+
+-- src/lib.rt:228:22
+add-degrees : tie.Need-add-degrees Inv-loop μ-loop
+add-degrees c = let l = c .before .before .before .loop in
+    let s = c .before .before .before .before in
+    omega (arith, s .pre .1 (l .j) (omega arith), l .inv .4 (l .j) (omega arith))
+
+-- src/lib.rt:228:9
+slice-write-degrees : tie.Need-slice-write-degrees Inv-loop μ-loop
+slice-write-degrees c = search needs
+
+-- src/lib.rt:229:9
+add-j : tie.Need-add-j Inv-loop μ-loop
+add-j c = search needs
+
+-- src/lib.rt:227:5
+loop-less : tie.Need-loop-less Inv-loop μ-loop
+loop-less c = search needs
+
+-- src/lib.rt:227:5
+loop-again : tie.Need-loop-again Inv-loop μ-loop
+loop-again c = let l = c .before .before .before .loop in
+    let a = c .before .before .before .before .args in
+    let f : ℕ → ℕ = λ k. getD (a .degrees .now) k 0 + getD (a .row .now) k 0 in
+    let fits : l .j < length (l .degrees) = omega arith in
+    let value : getD (l .degrees) (l .j) 0 + getD (a .row .now) (l .j) 0 ≡ f (l .j) = ap (λ (z : ℕ). z + getD (a .row .now) (l .j) 0) (l .inv .4 (l .j) (omega arith)) in (
+      omega arith,
+      refl,
+      simp length-set (omega arith),
+      stored f (a .degrees .now) (l .degrees) (l .j) _ fits value (l .inv .3),
+      left-alone f (a .degrees .now) (l .degrees) (l .j) _ fits value (l .inv .4),
+    )
+
+-- src/lib.rt:220:1
+same-length : tie.Need-same-length Inv-loop μ-loop
+same-length c = search needs
+
+-- src/lib.rt:220:1
+returns : tie.Need-returns Inv-loop μ-loop
+returns c = λ k h. c .before .loop .inv .3 k (omega arith)
+
+pub add-spec : {M : Type 1} → statement M
+add-spec =
+    tie.close
+    (tie.spec
+    Inv-loop
+    μ-loop
+    loop-holds
+    slice-read-degrees
+    shared-slice-read-degrees
+    add-degrees
+    slice-write-degrees
+    add-j
+    loop-less
+    loop-again
+    same-length
+    returns)

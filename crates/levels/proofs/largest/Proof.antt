@@ -1,0 +1,61 @@
+use borrow.Author.Needs.{needs}
+use Prim.Native.Nat.{ℕ, _+_, _≤_, _<_, _-_}
+use mathlib.Core.Path.{_≡_, refl, sym, ap, _∙_, subst}
+use native.Mathlib.Omega.{arith}
+use lib.ListN.{length, getD, length-set}
+use borrow.Author.Count.{below-more}
+use Rattle.levels.proofs.largest.Statement.{statement}
+use Rattle.levels.proofs.largest.Tie as tie
+use Rattle.levels.proofs.largest.Reads as reads
+use Rattle.levels.proofs.largest.Lts as lts
+use Rattle.levels.proofs.higher.Reads as higher-reads
+
+abbrev Inv-loop : tie.InvT-loop
+Inv-loop degrees n high₀ i₀ high i =
+    (i ≤ n) × (n ≡ length degrees) × ((k : ℕ) → k < i → getD degrees k 0 ≤ high)
+
+abbrev μ-loop : tie.MeasureT-loop
+μ-loop degrees n high₀ i₀ high i =
+    n - i
+
+-- src/lib.rt:265:5
+loop-holds : tie.Need-loop-holds Inv-loop μ-loop
+loop-holds c = (omega arith, refl, (λ k l. absurd (let z : ⊥ = omega arith in z)))
+
+-- src/lib.rt:266:29
+shared-slice-read-higher : tie.Need-shared-slice-read-higher Inv-loop μ-loop
+shared-slice-read-higher c = search needs
+
+-- src/lib.rt:266:9
+higher-requires : tie.Need-higher-requires Inv-loop μ-loop
+higher-requires c κs = search needs
+
+-- src/lib.rt:267:9
+add-i : tie.Need-add-i Inv-loop μ-loop
+add-i c = search needs
+
+-- src/lib.rt:265:5
+loop-less : tie.Need-loop-less Inv-loop μ-loop
+loop-less c = search needs
+
+-- src/lib.rt:265:5
+loop-again : tie.Need-loop-again Inv-loop μ-loop
+loop-again c = let l = c .before .before .before .loop in (omega arith, refl, below-more _ _ (λ k h. omega (arith, l .inv .2 k h, c .higher .ensures .0)) (c .higher .ensures .1))
+
+-- src/lib.rt:259:1
+returns : tie.Need-returns Inv-loop μ-loop
+returns c = λ k h. c .before .loop .inv .2 k (omega arith)
+
+pub largest-spec : {M : Type 1} → statement M
+largest-spec =
+    tie.close
+    (tie.spec
+    Inv-loop
+    μ-loop
+    loop-holds
+    shared-slice-read-higher
+    higher-requires
+    add-i
+    loop-less
+    loop-again
+    returns)

@@ -1,0 +1,135 @@
+use borrow.Author.Needs.{needs}
+use Rattle.model.proofs.Count.{bit-le}
+use Rattle.model.proofs.Differ.{differing-none, differing-more, differing-le}
+use mathlib.Core.Bool.{not}
+use lib.Dec.{eqb}
+use lib.Seq.{ext-getD}
+use Rattle.model.specs.Layout.{differing}
+use Prim.Native.Nat.{ℕ, _+_, _≤_, _<_, _-_}
+use mathlib.Core.Path.{_≡_, refl, sym, ap, _∙_, subst}
+use native.Mathlib.Omega.{arith}
+use lib.ListN.{length, getD, length-set}
+use Rattle.model.proofs.Store.{stored, left-alone}
+use Rattle.model.specs.Count.{bit, count}
+use Rattle.levels.proofs.store.Statement.{statement}
+use Rattle.levels.proofs.store.Tie as tie
+use Rattle.levels.proofs.store.Reads as reads
+use Rattle.levels.proofs.store.Lts as lts
+use Rattle.levels.proofs.unequal.Reads as unequal-reads
+
+abbrev Inv-loop : tie.InvT-loop
+Inv-loop part₀ row n differ₀ i₀ part differ i =
+    (i ≤ n) ×
+    (n ≡ length part₀) ×
+    (length part ≡ length part₀) ×
+    (differ ≡ differing i part₀ row) ×
+    ((k : ℕ) → k < i → getD part k 0 ≡ getD row k 0) ×
+    ((k : ℕ) → i ≤ k → getD part k 0 ≡ getD part₀ k 0)
+
+abbrev μ-loop : tie.MeasureT-loop
+μ-loop part₀ row n differ₀ i₀ part differ i =
+    n - i
+
+-- src/lib.rt:299:5
+loop-holds : tie.Need-loop-holds Inv-loop μ-loop
+loop-holds c = (omega arith, refl, refl, sym (differing-none _ _), (λ k l. absurd (let z : ⊥ = omega arith in z)), (λ k l. refl))
+
+-- src/lib.rt:300:27
+mul-unequal : tie.Need-mul-unequal Inv-loop μ-loop
+mul-unequal c = search needs
+
+-- src/lib.rt:300:27
+slice-read-unequal : tie.Need-slice-read-unequal Inv-loop μ-loop
+slice-read-unequal c = search needs
+
+-- src/lib.rt:300:36
+mul-unequal-2 : tie.Need-mul-unequal-2 Inv-loop μ-loop
+mul-unequal-2 c = search needs
+
+-- src/lib.rt:300:36
+shared-slice-read-unequal : tie.Need-shared-slice-read-unequal Inv-loop μ-loop
+shared-slice-read-unequal c = search needs
+
+-- src/lib.rt:300:19
+unequal-requires : tie.Need-unequal-requires Inv-loop μ-loop
+unequal-requires c κs = search needs
+
+-- src/lib.rt:300:9
+add-differ : tie.Need-add-differ Inv-loop μ-loop
+add-differ c = let l = c .before .before .before .before .loop in
+    let s = c .before .before .before .before .before .before .before in
+    omega (arith, l .inv .3, differing-le (s .args .part .now) (s .args .row .now) (l .i), c .unequal .ensures, bit-le (not (eqb (getD (l .part) (l .i) 0) (getD (s .args .row .now) (l .i) 0))), s .pre .1, s .pre .0)
+
+-- src/lib.rt:301:19
+mul-part : tie.Need-mul-part Inv-loop μ-loop
+mul-part c = search needs
+
+-- src/lib.rt:301:19
+shared-slice-read-part : tie.Need-shared-slice-read-part Inv-loop μ-loop
+shared-slice-read-part c = search needs
+
+-- src/lib.rt:301:9
+mul-part-2 : tie.Need-mul-part-2 Inv-loop μ-loop
+mul-part-2 c = search needs
+
+-- src/lib.rt:301:9
+slice-write-part : tie.Need-slice-write-part Inv-loop μ-loop
+slice-write-part c = search needs
+
+-- src/lib.rt:302:9
+add-i : tie.Need-add-i Inv-loop μ-loop
+add-i c = search needs
+
+-- src/lib.rt:299:5
+loop-less : tie.Need-loop-less Inv-loop μ-loop
+loop-less c = search needs
+
+-- src/lib.rt:299:5
+loop-again : tie.Need-loop-again Inv-loop μ-loop
+loop-again c = let l = c .before .before .before .before .before .loop in
+    let a = c .before .before .before .before .before .before .before .before .args in
+    let f : ℕ → ℕ = λ k. getD (a .row .now) k 0 in
+    let fits : l .i < length (l .part) = omega arith in (
+      omega arith,
+      refl,
+      simp length-set (omega arith),
+      omega (arith, l .inv .3, c .before .unequal .ensures, ap (λ (z : ℕ). bit (not (eqb z (getD (a .row .now) (l .i) 0)))) (l .inv .5 (l .i) (omega arith)), differing-more (a .part .now) (a .row .now) (l .i)),
+      stored f (a .part .now) (l .part) (l .i) _ fits refl (l .inv .4),
+      left-alone f (a .part .now) (l .part) (l .i) _ fits refl (l .inv .5),
+    )
+
+-- src/lib.rt:292:1
+same-length : tie.Need-same-length Inv-loop μ-loop
+same-length c = search needs
+
+-- src/lib.rt:292:1
+returns : tie.Need-returns Inv-loop μ-loop
+returns c = let l = c .before .loop in
+    let s = c .before .before .before .before in
+    let e : l .i ≡ length (s .args .row .now) = omega (arith, s .pre .0) in (
+      ext-getD 0 (l .part) (s .args .row .now) (omega (arith, s .pre .0)) (λ k h. l .inv .4 k (omega (arith, s .pre .0))),
+      l .inv .3 ∙ ap (λ (z : ℕ). differing z (s .args .part .now) (s .args .row .now)) e,
+    )
+
+pub store-spec : {M : Type 1} → statement M
+store-spec =
+    tie.close
+    (tie.spec
+    Inv-loop
+    μ-loop
+    loop-holds
+    mul-unequal
+    slice-read-unequal
+    mul-unequal-2
+    shared-slice-read-unequal
+    unequal-requires
+    add-differ
+    mul-part
+    shared-slice-read-part
+    mul-part-2
+    slice-write-part
+    add-i
+    loop-less
+    loop-again
+    same-length
+    returns)
