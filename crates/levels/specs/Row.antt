@@ -112,6 +112,8 @@ pub record Start (g : Graph) (w : Work) : Type 0 where
 
 -- the first places hold the degrees of n operators, and of m rides, inside everybody
 pub record Everybody (g : Graph) (operators rides : List ℕ) : Type 0 where
+  pub operators-long : length operators ≡ 200
+  pub rides-long : length rides ≡ 60
   pub operator-degrees : (u : ℕ) → u < g .operators → getD operators u 0 ≡ degree g everybody u
   pub ride-degrees : (v : ℕ) → v < g .rides → getD rides v 0 ≡ degree g everybody (g .operators + v)
 

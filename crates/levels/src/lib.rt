@@ -303,3 +303,50 @@ fn store(part: &mut [u16], row: &[u16]) -> u16
     }
     differ
 }
+
+// The degrees inside everybody.
+pub struct Degrees {
+    pub operators: [u8; 200],
+    pub rides: [u8; 60],
+}
+
+// The degrees of n operators and m rides inside everybody.
+fn everybody(by_operator: &[u8], by_ride: &[u8], n: usize, m: usize) -> Degrees
+    requires { ⌜ Tables n m (now «by_operator») (now «by_ride») ⌝ }
+    ensures { λ r. ⌜ Everybody (table-graph n m (now («by_operator» .entry))) (r .operators) (r .rides) ⌝ }
+{
+    let mut operators = [0u8; 200];
+    let mut rides = [0u8; 60];
+    add_rows(&mut operators[0..n], by_ride, 200, m);
+    add_rows(&mut rides[0..m], by_operator, 60, n);
+    Degrees { operators, rides }
+}
+
+// The row of alpha.
+fn fill_row(
+    by_operator: &[u8],
+    by_ride: &[u8],
+    degrees: Degrees,
+    n: usize,
+    m: usize,
+    alpha: u8,
+    row: &mut [u16],
+)
+    requires { ⌜ Tables n m (now «by_operator») (now «by_ride») × Everybody (table-graph n m (now «by_operator»)) (degrees .operators) (degrees .rides) × (1 ≤ alpha) × (length (now row) ≡ n + m) ⌝ }
+    ensures { λ _. ⌜ now (row .exit) ≡ levels-row (table-graph n m (now («by_operator» .entry))) alpha ⌝ }
+{
+    let mut operators = [1u8; 200];
+    let mut rides = [1u8; 60];
+    let mut operator_degrees = degrees.operators;
+    let mut ride_degrees = degrees.rides;
+    raise(
+        &mut operators[0..n],
+        &mut operator_degrees[0..n],
+        &mut rides[0..m],
+        &mut ride_degrees[0..m],
+        row,
+        by_operator,
+        by_ride,
+        alpha,
+    );
+}
