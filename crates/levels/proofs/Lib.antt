@@ -1,3 +1,4 @@
 pub mod Side
 pub mod Raising
 pub mod Rows
+pub mod Stored

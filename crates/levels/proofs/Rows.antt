@@ -1,16 +1,18 @@
 -- From tables and degrees to rows, and from rows to the index. Assumes nothing.
-use mathlib.Core.Path.{_≡_, refl, sym, ap, _∙_, subst, subst₂}
+use mathlib.Core.Path.{_≡_, refl, sym, ap, ap₂, _∙_, subst, subst₂}
 use mathlib.Core.Bool.{Bool, true, _&&_, and-true}
 use mathlib.Core.List.{List, _++_}
-use Prim.Native.Nat.{ℕ, _+_, _-_, _*_, _≤_, _<_}
+use Prim.Native.Nat.{ℕ, suc, _+_, _-_, _*_, _≤_, _<_}
+use native.Mathlib.Numerals.{add-one}
 use native.Mathlib.Omega.{arith}
 use lib.Dec.{T, eqb}
 use lib.ListN.{length, getD, take, drop, length-take, List·getD-append}
-use lib.Seq.{getD-take}
-use Rattle.model.specs.Count.{bit, count}
+use lib.Seq.{getD-take, ext-getD}
+use Rattle.model.specs.Count.{bit, count, values}
 use Rattle.model.specs.Graph.{Graph, nodes, degree, everybody, marked, level, row}
-use Rattle.model.proofs.Count.{bit-test, count-ext, test-true}
+use Rattle.model.proofs.Count.{bit-test, count-ext, length-values, getD-values}
 use Rattle.model.proofs.Peel.{degree-operator, degree-ride}
+use Rattle.model.proofs.Level.{level-laws}
 use Rattle.tables.specs.Table.{Table}
 use Rattle.levels.specs.Row.{joined, table-graph, Work, work, Fits, Start, Everybody, Tables}
 
@@ -86,3 +88,15 @@ module _ (n m : ℕ) (t t′ : List ℕ) (tables : Tables n m t t′) where
 
     pub row-done : (α : ℕ) (levels′ : List ℕ) → levels′ ≡ row (table-graph (length (w .operators)) (length (w .rides)) t) α → levels′ ≡ row (table-graph n m t) α
     row-done α levels′ e = subst₂ (λ (k j : ℕ). levels′ ≡ row (table-graph k j t) α) (fits .operators) (fits .rides) e
+
+-- above the largest degree of an operator a row is all 0
+pub zero-row : (g : Graph) (α high : ℕ) (od : List ℕ) → high < α → ((u : ℕ) → u < g .operators → getD od u 0 ≡ degree g everybody u) → ((u : ℕ) → u < g .operators → getD od u 0 ≤ high) → (l : List ℕ) → length l ≡ nodes g → ((i : ℕ) → i < nodes g → getD l i 0 ≡ 0) → l ≡ row g α
+unfolding row
+zero-row g α high od k same few l long zeros =
+    ext-getD 0 l (values (nodes g) (level g α)) (long ∙ sym (length-values (level g α) (nodes g)))
+    (λ i h. zeros i (omega arith) ∙ sym (level-laws .above g α (λ u b. omega (arith, same u b, few u b)) i (omega arith)) ∙ sym (getD-values (level g α) (nodes g) i 0 (omega arith)))
+
+-- the row after a rows, as rows of the index count it
+pub row-values : (g : Graph) (a w : ℕ) → w ≡ nodes g → (l : List ℕ) → l ≡ row g (a + 1) → l ≡ values w (λ x. level g (suc a) x)
+unfolding row
+row-values g a w e l h = h ∙ ap₂ (λ (k b : ℕ). values k (λ (x : ℕ). level g b x)) (sym e) (add-one a)

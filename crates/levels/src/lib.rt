@@ -6,7 +6,7 @@ ghost use lib.ListN.{length, getD, set};
 ghost use mathlib.Core.Bool.{not};
 ghost use lib.Dec.{eqb};
 ghost use Rattle.model.specs.Count.{bit, count};
-ghost use Rattle.model.specs.Graph.{row as levels-row};
+ghost use Rattle.model.specs.Graph.{row as levels-row, index-of};
 ghost use Rattle.model.specs.Layout.{over, differing};
 ghost use Rattle.tables.specs.Table.{Table};
 ghost use Rattle.levels.specs.Row.{Side, Visited, Swept, Work, work, table-graph, Fits, Raising, Settled, Rounded, Lower, Least, Start, Everybody, Tables, joined};
@@ -349,4 +349,63 @@ fn fill_row(
         by_ride,
         alpha,
     );
+}
+
+// The row of alpha; above the largest degree of an operator, high, it is all 0.
+fn any_row(
+    by_operator: &[u8],
+    by_ride: &[u8],
+    degrees: Degrees,
+    n: usize,
+    m: usize,
+    high: u8,
+    alpha: u8,
+    row: &mut [u16],
+)
+    requires { ⌜ Tables n m (now «by_operator») (now «by_ride») × Everybody (table-graph n m (now «by_operator»)) (degrees .operators) (degrees .rides) × (1 ≤ alpha) × (length (now row) ≡ n + m) ⌝ }
+    requires { ⌜ ((u : ℕ) → u < n → getD (degrees .operators) u 0 ≤ high) ⌝ }
+    ensures { λ _. ⌜ now (row .exit) ≡ levels-row (table-graph n m (now («by_operator» .entry))) alpha ⌝ }
+{
+    if high < alpha {
+        clear(row);
+        return;
+    }
+    fill_row(by_operator, by_ride, degrees, n, m, alpha, row);
+}
+
+// Every row of the index, each compared and stored once; the number of words that differ.
+fn fill_rows(
+    by_operator: &[u8],
+    by_ride: &[u8],
+    degrees: Degrees,
+    n: usize,
+    m: usize,
+    high: u8,
+    row: &mut [u16],
+    index: &mut [u16],
+) -> u16
+    requires { ⌜ Tables n m (now «by_operator») (now «by_ride») × Everybody (table-graph n m (now «by_operator»)) (degrees .operators) (degrees .rides) × (length (now row) ≡ n + m) × (m * (n + m) ≤ length (now index)) ⌝ }
+    requires { ⌜ ((u : ℕ) → u < n → getD (degrees .operators) u 0 ≤ high) ⌝ }
+    ensures { λ r. ⌜ (now (index .exit) ≡ over (index-of (table-graph n m (now («by_operator» .entry)))) (now (index .entry))) × (r ≡ differing (m * (n + m)) (now (index .entry)) (index-of (table-graph n m (now («by_operator» .entry))))) ⌝ }
+{
+    let w = row.len();
+    let mut differ = 0;
+    let mut a = 0;
+    while a < m {
+        any_row(
+            by_operator,
+            by_ride,
+            degrees,
+            n,
+            m,
+            high,
+            (a + 1) as u8,
+            row,
+        );
+        let at = a * w;
+        let end = at + w;
+        differ += store(&mut index[at..end], row);
+        a += 1;
+    }
+    differ
 }

@@ -4,7 +4,7 @@ use mathlib.Core.Logic.{_≢_}
 use mathlib.Core.Bool.{Bool, true, false, _&&_, _||_, not}
 use mathlib.Core.List.{List, [], _∷_, _++_}
 use Prim.Native.Nat.{ℕ, zero, suc, _+_, _*_, _≤_, _<_}
-use native.Mathlib.Nat.{suc-mul, add-zero}
+use native.Mathlib.Nat.{suc-mul, add-zero, add-suc}
 use native.Mathlib.Numerals.{add-one}
 use native.Mathlib.Omega.{arith}
 use native.Mathlib.Decide.{decLt, decLe, ℕ-discrete}
@@ -89,6 +89,12 @@ module _ (p : ℕ → Bool) where
   pub count-more : (k : ℕ) → count (k + 1) p ≡ count k p + bit (p k)
   unfolding count
   count-more k = ap (λ (n : ℕ). count n p) (add-one k)
+
+  -- a first part, and the part behind it
+  pub count-append : (k j : ℕ) → count (k + j) p ≡ count k p + count j (λ i. p (k + i))
+  unfolding count
+  count-append k zero = ap (λ (n : ℕ). count n p) (add-zero k) ∙ sym (add-zero (count k p))
+  count-append k (suc j) = ap (λ (n : ℕ). count n p) (add-suc k j) ∙ (let e = count-append k j in let r : count (k + j) p + bit (p (k + j)) ≡ count k p + (count j (λ i. p (k + i)) + bit (p (k + j))) = omega (arith, e) in r)
 
   -- a number that passes is counted
   pub count-pos : (k y : ℕ) → y < k → T (p y) → 0 < count k p

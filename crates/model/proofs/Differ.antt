@@ -7,7 +7,7 @@ use lib.Dec.{eqb}
 use lib.ListN.{getD}
 use Rattle.model.specs.Count.{bit, count}
 use Rattle.model.specs.Layout.{differing}
-use Rattle.model.proofs.Count.{count-le, count-more}
+use Rattle.model.proofs.Count.{count-le, count-more, count-append}
 
 module _ (old new : List ℕ) where
   pub differing-none : differing 0 old new ≡ 0
@@ -21,3 +21,8 @@ module _ (old new : List ℕ) where
   pub differing-le : (k : ℕ) → differing k old new ≤ k
   unfolding differing
   differing-le k = count-le (λ i. not (eqb (getD old i 0) (getD new i 0))) k
+
+  -- the words of a first part, and of the part behind it
+  pub differing-append : (k j : ℕ) → differing (k + j) old new ≡ differing k old new + count j (λ i. not (eqb (getD old (k + i) 0) (getD new (k + i) 0)))
+  unfolding differing
+  differing-append k j = count-append (λ i. not (eqb (getD old i 0) (getD new i 0))) k j
