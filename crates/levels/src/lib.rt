@@ -7,9 +7,10 @@ ghost use mathlib.Core.Bool.{not};
 ghost use lib.Dec.{eqb};
 ghost use Rattle.model.specs.Count.{bit, count};
 ghost use Rattle.model.specs.Graph.{row as levels-row, index-of};
-ghost use Rattle.model.specs.Layout.{over, differing};
-ghost use Rattle.tables.specs.Table.{Table};
+ghost use Rattle.model.specs.Layout.{over, graph, index-places, differing};
+ghost use Rattle.tables.specs.Table.{Table, AcceptedPairs};
 ghost use Rattle.levels.specs.Row.{Side, Visited, Swept, Work, work, table-graph, Fits, Raising, Settled, Rounded, Lower, Least, Start, Everybody, Tables, joined};
+use model::Head;
 
 // Subtracts a row of a table from the degrees.
 fn subtract(degrees: &mut [u8], row: &[u8])
@@ -269,6 +270,15 @@ fn largest(degrees: &[u8]) -> u8
     high
 }
 
+// The largest degree of n operators.
+fn largest_of(degrees: Degrees, n: usize) -> u8
+    requires { ⌜ n ≤ length (degrees .operators) ⌝ }
+    ensures { λ r. ⌜ ((u : ℕ) → u < n → getD (degrees .operators) u 0 ≤ r) ⌝ }
+{
+    let operators = degrees.operators;
+    largest(&operators[0..n])
+}
+
 // Zeroes a row.
 fn clear(row: &mut [u16])
     ensures { λ _. ⌜ ((i : ℕ) → i < length (now (row .entry)) → getD (now (row .exit)) i 0 ≡ 0) ⌝ }
@@ -408,4 +418,58 @@ fn fill_rows(
         a += 1;
     }
     differ
+}
+
+// Fills the index over tables of zeros; the number of words that differ.
+fn fill_over(
+    head: Head,
+    operators: &[u16],
+    rides: &[u16],
+    by_operator: &mut [u8],
+    by_ride: &mut [u8],
+    row: &mut [u16],
+    index: &mut [u16],
+) -> u16
+    requires { ⌜ AcceptedPairs head (now operators) (now rides) × (length (now «by_operator») ≡ 12000) × (length (now «by_ride») ≡ 12000) × (length (now row) ≡ 260) × (index-places head ≤ length (now index)) ⌝ }
+    requires { ⌜ ((k : ℕ) → getD (now «by_operator») k 0 ≡ 0) ⌝ }
+    requires { ⌜ ((k : ℕ) → getD (now «by_ride») k 0 ≡ 0) ⌝ }
+    ensures { λ r. ⌜ (now (index .exit) ≡ over (index-of (graph head (now (operators .entry)) (now (rides .entry)))) (now (index .entry))) × (r ≡ differing (index-places head) (now (index .entry)) (index-of (graph head (now (operators .entry)) (now (rides .entry))))) ⌝ }
+{
+    let n = head.operators as usize;
+    let m = head.rides as usize;
+    let w = n + m;
+    let pairs = head.pairs as usize;
+    tables::fill(operators, rides, pairs, 60, 200, by_operator);
+    tables::fill(rides, operators, pairs, 200, 60, by_ride);
+    let degrees = everybody(by_operator, by_ride, n, m);
+    let high = largest_of(degrees, n);
+    fill_rows(
+        by_operator,
+        by_ride,
+        degrees,
+        n,
+        m,
+        high,
+        &mut row[0..w],
+        index,
+    )
+}
+
+// Fills the index of a pair table; the number of words that differ before and after.
+pub fn fill_index(head: Head, operators: &[u16], rides: &[u16], index: &mut [u16]) -> u16
+    requires { ⌜ AcceptedPairs head (now operators) (now rides) × (index-places head ≤ length (now index)) ⌝ }
+    ensures { λ r. ⌜ (now (index .exit) ≡ over (index-of (graph head (now (operators .entry)) (now (rides .entry)))) (now (index .entry))) × (r ≡ differing (index-places head) (now (index .entry)) (index-of (graph head (now (operators .entry)) (now (rides .entry))))) ⌝ }
+{
+    let mut by_operator = [0u8; 12000];
+    let mut by_ride = [0u8; 12000];
+    let mut row = [0u16; 260];
+    fill_over(
+        head,
+        operators,
+        rides,
+        &mut by_operator,
+        &mut by_ride,
+        &mut row,
+        index,
+    )
 }

@@ -1,0 +1,35 @@
+use borrow.Author.Needs.{needs}
+use Prim.Native.Nat.{ℕ, _+_, _*_, _≤_, _<_, _-_}
+use mathlib.Core.Path.{_≡_, refl, sym, ap, _∙_, subst}
+use native.Mathlib.Omega.{arith}
+use lib.ListN.{length, getD}
+use Rattle.levels.proofs.Rows.{first-length, first-at}
+use Rattle.levels.proofs.largest_of.Statement.{statement}
+use Rattle.levels.proofs.largest_of.Tie as tie
+use Rattle.levels.proofs.largest_of.Reads as reads
+use Rattle.levels.proofs.largest_of.Lts as lts
+use Rattle.levels.proofs.largest.Reads as largest-reads
+
+-- src/lib.rt:279:13
+sub-largest : tie.Need-sub-largest
+sub-largest c = search needs
+
+-- src/lib.rt:279:13
+part-largest-start : tie.Need-part-largest-start
+part-largest-start c = search needs
+
+-- src/lib.rt:279:13
+part-largest-end : tie.Need-part-largest-end
+part-largest-end c = search needs
+
+-- src/lib.rt:279:5
+largest-requires : tie.Need-largest-requires
+largest-requires c κs = search needs
+
+-- src/lib.rt:274:1
+returns : tie.Need-returns
+returns c = let s = c .before .before .before .before in λ u h. subst (λ (z : ℕ). z ≤ c .largest .result) (first-at (s .args .degrees .operators) (s .args .n) (s .pre) u 0 h) (c .largest .ensures u (omega (arith, first-length (s .args .degrees .operators) (s .args .n) (s .pre))))
+
+pub largest-of-spec : {M : Type 1} → statement M
+largest-of-spec =
+    tie.close (tie.spec sub-largest part-largest-start part-largest-end largest-requires returns)
