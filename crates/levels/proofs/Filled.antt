@@ -40,13 +40,13 @@ module _ (h : Head) (operators rides : List ℕ) (accepted : AcceptedPairs h ope
           by-operator-bits = record {
             wide = accepted .few-rides;
             size = omega (arith, accepted .few-operators);
-            bits = λ u v k l. filled u v (omega (arith, accepted .few-operators)) (omega (arith, accepted .few-rides)) ∙ ap bit (sym (joined-listed u v k l))
+            bits = λ u v k l. filled u v (omega (arith, accepted .few-operators)) (omega (arith, accepted .few-rides)) ∙ ap bit (sym (joined-listed u v k l));
           };
           by-ride-bits = record {
             wide = accepted .few-operators;
             size = omega (arith, accepted .few-rides);
-            bits = λ v u l k. filled′ v u (omega (arith, accepted .few-rides)) (omega (arith, accepted .few-operators)) ∙ ap bit (listed-swap (h .pairs) operators rides u v ∙ sym (joined-listed u v k l))
-          }
+            bits = λ v u l k. filled′ v u (omega (arith, accepted .few-rides)) (omega (arith, accepted .few-operators)) ∙ ap bit (listed-swap (h .pairs) operators rides u v ∙ sym (joined-listed u v k l));
+          };
         }
 
     same : (u v : ℕ) → u < h .operators → v < h .rides → listed (h .pairs) operators rides u v ≡ joined t 60 u v

@@ -7,7 +7,7 @@ ghost use mathlib.Core.Bool.{not};
 ghost use lib.Dec.{eqb};
 ghost use Rattle.model.specs.Count.{bit, count};
 ghost use Rattle.model.specs.Graph.{row as levels-row, index-of};
-ghost use Rattle.model.specs.Layout.{over, graph, index-places, differing};
+ghost use Rattle.model.specs.Layout.{over, graph, mark-places, index-places, differing};
 ghost use Rattle.tables.specs.Table.{Table, AcceptedPairs};
 ghost use Rattle.levels.specs.Row.{Side, Visited, Swept, Work, work, table-graph, Fits, Raising, Settled, Rounded, Lower, Least, Start, Everybody, Tables, joined};
 use model::Head;
@@ -472,4 +472,46 @@ pub fn fill_index(head: Head, operators: &[u16], rides: &[u16], index: &mut [u16
         &mut row,
         index,
     )
+}
+
+// The row of alpha over tables of zeros.
+fn row_over(
+    head: Head,
+    operators: &[u16],
+    rides: &[u16],
+    by_operator: &mut [u8],
+    by_ride: &mut [u8],
+    alpha: u8,
+    row: &mut [u16],
+)
+    requires { ⌜ AcceptedPairs head (now operators) (now rides) × (length (now «by_operator») ≡ 12000) × (length (now «by_ride») ≡ 12000) × (1 ≤ alpha) × (length (now row) ≡ mark-places head) ⌝ }
+    requires { ⌜ ((k : ℕ) → getD (now «by_operator») k 0 ≡ 0) ⌝ }
+    requires { ⌜ ((k : ℕ) → getD (now «by_ride») k 0 ≡ 0) ⌝ }
+    ensures { λ _. ⌜ now (row .exit) ≡ levels-row (graph head (now (operators .entry)) (now (rides .entry))) alpha ⌝ }
+{
+    let n = head.operators as usize;
+    let m = head.rides as usize;
+    let pairs = head.pairs as usize;
+    tables::fill(operators, rides, pairs, 60, 200, by_operator);
+    tables::fill(rides, operators, pairs, 200, 60, by_ride);
+    let degrees = everybody(by_operator, by_ride, n, m);
+    fill_row(by_operator, by_ride, degrees, n, m, alpha, row);
+}
+
+// Row alpha of the index of a pair table.
+pub fn row_of(head: Head, operators: &[u16], rides: &[u16], alpha: u8, row: &mut [u16])
+    requires { ⌜ AcceptedPairs head (now operators) (now rides) × (1 ≤ alpha) × (length (now row) ≡ mark-places head) ⌝ }
+    ensures { λ _. ⌜ now (row .exit) ≡ levels-row (graph head (now (operators .entry)) (now (rides .entry))) alpha ⌝ }
+{
+    let mut by_operator = [0u8; 12000];
+    let mut by_ride = [0u8; 12000];
+    row_over(
+        head,
+        operators,
+        rides,
+        &mut by_operator,
+        &mut by_ride,
+        alpha,
+        row,
+    );
 }

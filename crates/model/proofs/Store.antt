@@ -1,10 +1,10 @@
 -- Lists as loops and calls leave them: values stored place by place, and a part that is lent. Assumes nothing.
-use mathlib.Core.Path.{_≡_, _∙_, subst}
+use mathlib.Core.Path.{_≡_, refl, _∙_, subst}
 use mathlib.Core.List.{List, _++_}
-use Prim.Native.Nat.{ℕ, _+_, _-_, _≤_, _<_}
+use Prim.Native.Nat.{ℕ, zero, suc, _+_, _-_, _≤_, _<_}
 use native.Mathlib.Omega.{arith}
 use native.Mathlib.Decide.{decLt}
-use lib.ListN.{length, getD, set, take, drop, length-take, length-drop, List·getD-append}
+use lib.ListN.{length, getD, set, take, drop, replicate, length-take, length-drop, List·getD-append}
 use lib.Seq.{getD-set-same, getD-set-other, getD-take, getD-drop, length-take-le, getD-append-add}
 
 -- a loop stores f 0, f 1, .. : what holds behind the place i and ahead of it after one store
@@ -45,3 +45,9 @@ module _ (l ys : List ℕ) (a : ℕ) (long : length ys ≡ a) where
   front-after j d =
       subst (λ (n : ℕ). getD (ys ++ drop a l) (n + j) d ≡ getD l (a + j) d) long
       (getD-append-add ys (drop a l) j d ∙ getD-drop a l j d)
+
+-- a list of zeros, at every place
+pub getD-zeros : (n k : ℕ) → _≡_ {A = ℕ} (getD (replicate n 0) k 0) 0
+getD-zeros zero k = refl
+getD-zeros (suc n) zero = refl
+getD-zeros (suc n) (suc k) = getD-zeros n k
