@@ -169,6 +169,22 @@ module _ (p q : ℕ → Bool) where
         | no d ↦ omega (arith, count-less x k (λ y l. f y (omega arith)) (omega arith) t n, bit-mono (q k) (p k) (f k (omega arith)))
       ]
 
+  -- where x alone stops to pass
+  pub count-without : (x k : ℕ) → ((y : ℕ) → y < k → y ≢ x → p y ≡ q y) → x < k → (T (q x) → ⊥) → count k p ≡ count k q + bit (p x)
+  unfolding count
+  count-without x zero f h n = absurd (let z : ⊥ = omega arith in z)
+  count-without x (suc k) f h n =
+      elim (ℕ-discrete k x) [
+        | yes e ↦
+            omega (
+              arith,
+              count-ext k (λ y l. f y (omega arith) (omega arith)),
+              ap (λ (z : ℕ). bit (p z)) e,
+              ap bit (test-false (q k) (λ t. n (subst (λ (z : ℕ). T (q z)) e t))),
+            )
+        | no d ↦ omega (arith, count-without x k (λ y l. f y (omega arith)) (omega arith) n, ap bit (f k (omega arith) d))
+      ]
+
 -- where each number that passes r passes one of p and q
 pub count-add : (p q r : ℕ → Bool) (k : ℕ) → ((y : ℕ) → y < k → bit (p y) + bit (q y) ≡ bit (r y)) → count k p + count k q ≡ count k r
 unfolding count
@@ -225,6 +241,30 @@ module _ (p : ℕ → Bool) where
   -- where one passes, the lowest is below the end
   pub lowest-lt : (k y : ℕ) → y < k → T (p y) → lowest k p < k
   lowest-lt k y h t = elim (decLt (lowest k p) k) [ yes l ↦ l | no l ↦ absurd (lowest-least k y (omega arith) t) ]
+
+  -- it is the only number up to the end with none below it that passes, and which passes or is the end
+  pub lowest-only : (k x : ℕ) → x ≤ k → ((y : ℕ) → y < x → T (p y) → ⊥) → (x < k → T (p x)) → lowest k p ≡ x
+  lowest-only k x h least passes =
+      elim (decLt (lowest k p) x) [
+        | yes l ↦ absurd (least (lowest k p) l (lowest-passes k (omega arith)))
+        | no l ↦
+            elim (decLt x (lowest k p)) [
+              | yes b ↦ absurd (lowest-least k x b (passes (omega (arith, lowest-le k))))
+              | no b ↦ omega arith
+            ]
+      ]
+
+module _ (p q : ℕ → Bool) (k : ℕ) (same : (y : ℕ) → y < k → p y ≡ q y) where
+  pub lowest-ext : lowest k p ≡ lowest k q
+  lowest-ext =
+      lowest-only p k (lowest k q)
+      (lowest-le q k)
+      (λ y l t. lowest-least q k y l (subst T (same y (omega (arith, lowest-le q k))) t))
+      (λ l. subst T (sym (same (lowest k q) l)) (lowest-passes q k l))
+
+  pub some-ext : some k p ≡ some k q
+  unfolding some
+  some-ext = ap (ltb 0) (count-ext p q k same)
 
 -- ---- values and rows
 

@@ -1,19 +1,19 @@
 -- The laws of the peel: document 01's sentences on it, and that what is left is the largest set. Assumes nothing.
-use mathlib.Core.Path.{_≡_, refl, sym, ap, _∙_, subst}
+use mathlib.Core.Path.{_≡_, refl, sym, ap, ap₂, _∙_, subst}
 use mathlib.Core.Logic.{_≢_}
 use mathlib.Core.Bool.{Bool, true, false, _&&_, not}
-use mathlib.Core.List.{List, [], _∷_}
+use mathlib.Core.List.{List, [], _∷_, _++_}
 use Prim.Native.Nat.{ℕ, zero, suc, _+_, _-_, _≤_, _<_}
 use native.Mathlib.Omega.{arith}
 use native.Mathlib.Decide.{decLt, decLe, ℕ-discrete}
 use lib.Dec.{T, ltb, leb, eqb, ltb→lt, lt→ltb, nltb→le, T-not, not-T, eqb→eq}
 use borrow.Author.Tests.{lt-ltb, le-ltb, eq-eqb, ne-eqb}
-use lib.ListN.{length, getD, set, drop, replicate, getD-replicate, List·getD-eq-default}
-use lib.Seq.{getD-set-same, getD-set-other, set-out, drop-set-lt}
+use lib.ListN.{length, getD, set, drop, replicate, getD-replicate, List·getD-eq-default, List·getD-append, length-set}
+use lib.Seq.{getD-set-same, getD-set-other, set-out, set-append-left, drop-set-lt}
 use Rattle.model.specs.Count.{bit, count, some, lowest}
 use Rattle.model.specs.Graph.{Graph, nodes, degree, everybody, Inside, Meets, Largest, marked, short, settled, removals, without, peel}
 use Rattle.model.specs.Demand.{members, LowestShort, Dropped, PeelLaws}
-use Rattle.model.proofs.Count.{by-test, test-true, test-false, test-ext, and-left, and-right, and-both, count-all, count-mono, count-but-one, count-less, some-holds, some-witness, lowest-least, lowest-passes, lowest-lt}
+use Rattle.model.proofs.Count.{by-test, test-true, test-false, test-ext, and-left, and-right, and-both, count-all, count-mono, count-but-one, count-less, some-holds, some-witness, some-ext, count-ext, count-without, lowest-least, lowest-passes, lowest-lt, lowest-ext}
 
 -- ---- degree
 
@@ -57,6 +57,85 @@ module _ (g : Graph) (s t : ℕ → Bool) (more : Inside g s t) (x : ℕ) where
                   (λ u l. more-and (g .cleared u (x - g .operators)) u (omega arith)),
             )
       ]
+
+bit-and : (a b : Bool) → T b → bit (a && b) ≡ bit a
+bit-and true true t = refl
+bit-and true false t = absurd t
+bit-and false b t = refl
+
+-- and depend on the nodes of the set alone
+pub degree-ext : (g : Graph) (s t : ℕ → Bool) → ((y : ℕ) → y < nodes g → s y ≡ t y) → (x : ℕ) → degree g s x ≡ degree g t x
+degree-ext g s t same x =
+    omega (
+      arith,
+      degree-mono g s t (λ y h. subst T (same y h)) x,
+      degree-mono g t s (λ y h. subst T (sym (same y h))) x,
+    )
+
+-- where x leaves the set, the degrees on the other side lose their clearance, and those on its own side stay
+module _ (g : Graph) (s t : ℕ → Bool) (x : ℕ) (same : (y : ℕ) → y ≢ x → s y ≡ t y) where
+  pub degree-lost-ride : T (s x) → (T (t x) → ⊥) → x < g .operators → (v : ℕ) → degree g s (g .operators + v) ≡ degree g t (g .operators + v) + bit (g .cleared x v)
+  degree-lost-ride m n h v =
+      let w : ℕ = g .operators + v - g .operators in
+      let e : w ≡ v = omega arith in
+      omega (
+        arith,
+        degree-ride g s (g .operators + v) (omega arith),
+        degree-ride g t (g .operators + v) (omega arith),
+        count-without
+            (λ u. g .cleared u w && s u)
+            (λ u. g .cleared u w && t u)
+            x
+            (g .operators)
+            (λ u l d. ap (λ (b : Bool). g .cleared u w && b) (same u d))
+            h
+            (λ k. n (and-right (g .cleared x w) (t x) k)),
+        bit-and (g .cleared x w) (s x) m,
+        ap (λ (z : ℕ). bit (g .cleared x z)) e,
+      )
+
+  pub degree-lost-operator : T (s x) → (T (t x) → ⊥) → (v : ℕ) → x ≡ g .operators + v → v < g .rides → (u : ℕ) → u < g .operators → degree g s u ≡ degree g t u + bit (g .cleared u v)
+  degree-lost-operator m n v e h u l =
+      omega (
+        arith,
+        degree-operator g s u l,
+        degree-operator g t u l,
+        count-without
+            (λ w. g .cleared u w && s (g .operators + w))
+            (λ w. g .cleared u w && t (g .operators + w))
+            v
+            (g .rides)
+            (λ w b d. ap (λ (z : Bool). g .cleared u w && z) (same (g .operators + w) (λ k. d (omega arith))))
+            h
+            (λ k. n (subst (λ (z : ℕ). T (t z)) (sym e) (and-right (g .cleared u v) (t (g .operators + v)) k))),
+        bit-and (g .cleared u v) (s (g .operators + v)) (subst (λ (z : ℕ). T (s z)) e m),
+      )
+
+  pub degree-same-operator : x < g .operators → (u : ℕ) → u < g .operators → degree g s u ≡ degree g t u
+  degree-same-operator h u l =
+      omega (
+        arith,
+        degree-operator g s u l,
+        degree-operator g t u l,
+        count-ext
+            (λ w. g .cleared u w && s (g .operators + w))
+            (λ w. g .cleared u w && t (g .operators + w))
+            (g .rides)
+            (λ w b. ap (λ (z : Bool). g .cleared u w && z) (same (g .operators + w) (omega arith))),
+      )
+
+  pub degree-same-ride : g .operators ≤ x → (y : ℕ) → g .operators ≤ y → degree g s y ≡ degree g t y
+  degree-same-ride h y l =
+      omega (
+        arith,
+        degree-ride g s y l,
+        degree-ride g t y l,
+        count-ext
+            (λ u. g .cleared u (y - g .operators) && s u)
+            (λ u. g .cleared u (y - g .operators) && t u)
+            (g .operators)
+            (λ u b. ap (λ (z : Bool). g .cleared u (y - g .operators) && z) (same u (omega arith))),
+      )
 
 -- ---- marks
 
@@ -234,6 +313,74 @@ module _ (g : Graph) (limit : ℕ → ℕ) where
         meets = settled-meets g limit (peel g limit f s) n;
         largest = λ t i m. peel-keeps t m f s i;
       }
+
+-- ---- a peel, one step after the other
+
+module _ (g : Graph) (limit : ℕ → ℕ) where
+  -- the steps of a peel and the marks that it leaves
+  abbrev Leaves : ℕ → List ℕ → ℕ → List ℕ → Type 0
+  Leaves f s steps marks = (length (removals g limit f s) ≡ steps) × (peel g limit f s ≡ marks)
+
+  pub peel-spent : (s : List ℕ) → Leaves 0 s 0 s
+  unfolding removals without peel
+  peel-spent s = (refl, refl)
+
+  pub peel-settled : (f : ℕ) (s : List ℕ) → T (settled g limit s) → Leaves f s 0 s
+  unfolding removals without peel
+  peel-settled zero s t = (refl, refl)
+  peel-settled (suc f) s t = rw (test-true (settled g limit s) t, removals, without) (refl, refl)
+
+  pub peel-step : (f : ℕ) (s : List ℕ) (x : ℕ) → lowest (nodes g) (short g limit s) ≡ x → (T (settled g limit s) → ⊥) → Leaves (suc f) s (suc (length (removals g limit f (set s x 0)))) (peel g limit f (set s x 0))
+  unfolding removals without peel
+  peel-step f s x e n = rw (← e, test-false (settled g limit s) n, removals, without) (refl, refl)
+
+  pub settled-lowest : (s : List ℕ) → nodes g ≤ lowest (nodes g) (short g limit s) → T (settled g limit s)
+  settled-lowest s h = by-test (settled g limit s) (λ t. t) (λ n. absurd (let z : ⊥ = omega (arith, unsettled-lowest g limit s n .node) in z))
+
+  pub unsettled-lowest-lt : (s : List ℕ) → lowest (nodes g) (short g limit s) < nodes g → T (settled g limit s) → ⊥
+  unsettled-lowest-lt s h t = settled-nobody g limit s t (lowest (nodes g) (short g limit s)) h (lowest-passes (short g limit s) (nodes g) h)
+
+  pub length-peel : (f : ℕ) (s : List ℕ) → length (peel g limit f s) ≡ length s
+  unfolding peel without
+  length-peel =
+      removals-ind g limit
+      (λ f s xs. length (without s xs) ≡ length s)
+      (λ s. refl)
+      (λ f s t. refl)
+      (λ f s x xs l rest. rest ∙ length-set s x 0)
+
+-- ---- marks past the nodes count for nothing
+
+module _ (g : Graph) (limit : ℕ → ℕ) (t : List ℕ) where
+  short-append : (s : List ℕ) → nodes g ≤ length s → (x : ℕ) → x < nodes g → short g limit (s ++ t) x ≡ short g limit s x
+  unfolding short
+  short-append s h x l =
+      ap₂ (λ (b : Bool) (d : ℕ). b && ltb d (limit x)) (same x l) (degree-ext g (marked (s ++ t)) (marked s) same x)
+    where
+      same : (y : ℕ) → y < nodes g → marked (s ++ t) y ≡ marked s y
+      same y k = ap (λ (z : ℕ). eqb z 1) (List·getD-append s t 0 y (omega arith))
+
+  pub settled-append : (s : List ℕ) → nodes g ≤ length s → settled g limit (s ++ t) ≡ settled g limit s
+  unfolding settled
+  settled-append s h = ap not (some-ext (short g limit (s ++ t)) (short g limit s) (nodes g) (short-append s h))
+
+  pub peel-append : (f : ℕ) (s : List ℕ) → nodes g ≤ length s → Leaves g limit f (s ++ t) (length (removals g limit f s)) (peel g limit f s ++ t)
+  unfolding removals without peel
+  peel-append zero s h = (refl, refl)
+  peel-append (suc f) s h =
+      by-test (settled g limit s)
+      (λ k.
+      let p = peel-settled g limit (suc f) (s ++ t) (subst T (sym (settled-append s h)) k) in
+      let q = peel-settled g limit (suc f) s k in
+      ((cc), (cc)))
+      (λ n.
+      let x : ℕ = lowest (nodes g) (short g limit s) in
+      let l = lowest-ext (short g limit (s ++ t)) (short g limit s) (nodes g) (short-append s h) in
+      let p = peel-step g limit f (s ++ t) x l (λ k. n (subst T (settled-append s h) k)) in
+      let q = peel-step g limit f s x refl n in
+      let e = set-append-left s t x 0 (omega (arith, unsettled-lowest g limit s n .node)) in
+      let r = peel-append f (set s x 0) (omega (arith, length-set s x 0)) in
+      ((cc), (cc)))
 
 -- ---- from all ones, and the laws together
 
