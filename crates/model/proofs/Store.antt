@@ -1,11 +1,12 @@
 -- Lists as loops and calls leave them: values stored place by place, and a part that is lent. Assumes nothing.
-use mathlib.Core.Path.{_≡_, refl, _∙_, subst}
+use mathlib.Core.Path.{_≡_, refl, ap, _∙_, subst}
 use mathlib.Core.List.{List, _++_}
 use Prim.Native.Nat.{ℕ, zero, suc, _+_, _-_, _≤_, _<_}
+use native.Mathlib.Numerals.{add-one}
 use native.Mathlib.Omega.{arith}
 use native.Mathlib.Decide.{decLt}
 use lib.ListN.{length, getD, set, take, drop, replicate, length-take, length-drop, List·getD-append}
-use lib.Seq.{getD-set-same, getD-set-other, getD-take, getD-drop, length-take-le, getD-append-add}
+use lib.Seq.{getD-set-same, getD-set-other, getD-take, getD-drop, length-take-le, getD-append-add, take-suc, drop-cons, set-at, append-snoc}
 
 -- a loop stores f 0, f 1, .. : what holds behind the place i and ahead of it after one store
 module _ (f : ℕ → ℕ) (l₀ l : List ℕ) (i v : ℕ) (fits : i < length l) (value : v ≡ f i) where
@@ -37,6 +38,18 @@ module _ (l ys zs : List ℕ) (a : ℕ) (inside : a ≤ length l) where
       subst (λ (n : ℕ). getD (take a l ++ (ys ++ zs)) (n + j) d ≡ getD ys j d) (length-take-le a l inside)
       (getD-append-add (take a l) (ys ++ zs) j d ∙ List·getD-append ys zs d j h)
 
+-- past a part that is replaced by as many words
+pub put-after : (l ys : List ℕ) (a b : ℕ) → a + b ≤ length l → length ys ≡ b → (x d : ℕ) → a + b ≤ x → getD (take a l ++ (ys ++ drop (a + b - a) (drop a l))) x d ≡ getD l x d
+put-after l ys a b inside long x d h =
+    let e : length (take a l) + (length ys + (x - (a + b))) ≡ x = omega (arith, length-take-le a l (omega arith)) in
+    let f : a + (a + b - a + (x - (a + b))) ≡ x = omega arith in
+    subst (λ (n : ℕ). getD (take a l ++ (ys ++ drop (a + b - a) (drop a l))) n d ≡ getD l x d) e
+    (getD-append-add (take a l) (ys ++ drop (a + b - a) (drop a l)) (length ys + (x - (a + b))) d ∙
+    getD-append-add ys (drop (a + b - a) (drop a l)) (x - (a + b)) d ∙
+    getD-drop (a + b - a) (drop a l) (x - (a + b)) d ∙
+    getD-drop a l (a + b - a + (x - (a + b))) d ∙
+    ap (λ (n : ℕ). getD l n d) f)
+
 module _ (l ys : List ℕ) (a : ℕ) (long : length ys ≡ a) where
   pub front-at : (j d : ℕ) → j < a → getD (ys ++ drop a l) j d ≡ getD ys j d
   front-at j d h = List·getD-append ys (drop a l) d j (omega arith)
@@ -51,3 +64,9 @@ pub getD-zeros : (n k : ℕ) → _≡_ {A = ℕ} (getD (replicate n 0) k 0) 0
 getD-zeros zero k = refl
 getD-zeros (suc n) zero = refl
 getD-zeros (suc n) (suc k) = getD-zeros n k
+
+-- a list whose first i words are copied from s, with the next one copied
+pub copied-more : (s d : List ℕ) (i : ℕ) → i < length s → i < length d → set (take i s ++ drop i d) i (getD s i 0) ≡ take (i + 1) s ++ drop (i + 1) d
+copied-more s d i h l =
+    rw (add-one, drop-cons d i 0 l, take-suc s i 0 h, append-snoc)
+    (set-at (take i s) (getD d i 0) (drop (suc i) d) (getD s i 0) i (length-take-le i s (omega arith)))

@@ -1,0 +1,92 @@
+-- Document 01, Peel: what a state of a peel is, and what its step, a run of steps and the whole peel leave.
+use mathlib.Core.Path.{_≡_}
+use mathlib.Core.Bool.{_&&_}
+use mathlib.Core.List.{List, _++_}
+use Prim.Native.Nat.{ℕ, _+_, _-_, _≤_, _<_}
+use lib.ListN.{length, getD, set, take, drop, replicate}
+use Rattle.peeling.specs.declared.State.{State}
+use Rattle.model.specs.declared.Peeled.{Peeled}
+use Rattle.model.specs.Count.{count}
+use Rattle.model.specs.Graph.{Graph, nodes, degree, marked, removals, peel}
+use Rattle.model.specs.Calls.{PeelOutcome}
+use Rattle.tables.specs.Table.{ByOperator, ByRide}
+
+-- the tables hold the clearances of g: rows by operator, columns by ride
+pub record Tables (g : Graph) (rows columns : List ℕ) : Type 0 where
+  pub most-operators : g .operators ≤ 200
+  pub most-rides : g .rides ≤ 60
+  pub by-operator : ByOperator g rows
+  pub by-ride : ByRide g columns
+
+-- what a peel of g starts from: its sizes and tables, and marks for all its nodes, each 0 or 1
+pub record Ready (g : Graph) (n m : ℕ) (rows columns marks : List ℕ) : Type 0 where
+  pub operators : n ≡ g .operators
+  pub rides : m ≡ g .rides
+  pub tables : Tables g rows columns
+  pub room : nodes g ≤ length marks
+  pub in-use : (x : ℕ) → x < nodes g → getD marks x 0 ≤ 1
+
+-- the remaining degrees of all operators and rides: those inside the marks
+abbrev pub Degrees : Graph → List ℕ → List ℕ → Type 0
+Degrees g marks degrees = (x : ℕ) → x < nodes g → getD degrees x 0 ≡ degree g (marked marks) x
+
+-- a state of a peel of g: its sizes, and the remaining degrees that travel with the marks
+pub record StateOf (g : Graph) (s : State) : Type 0 where
+  pub operators : s .operators ≡ g .operators
+  pub rides : s .rides ≡ g .rides
+  pub degrees : Degrees g (s .marks) (s .degrees)
+
+-- the marks of a first state: those of k nodes, and zeros up to the state's end
+abbrev pub padded : ℕ → List ℕ → List ℕ
+padded k marks = take k marks ++ drop k (replicate 260 0)
+
+-- the first state: no step taken, and the marks that came in
+pub record Started (g : Graph) (came : List ℕ) (r : State) : Type 0 where
+  pub steps : r .steps ≡ 0
+  pub marks : r .marks ≡ padded (nodes g) came
+  pub state : StateOf g r
+
+-- a row beside as many marks, at most 200, all of them 0 or 1
+pub record Beside (row marks : List ℕ) : Type 0 where
+  pub size : length row ≡ length marks
+  pub most : length row ≤ 200
+  pub row-bit : (i : ℕ) → i < length row → getD row i 0 ≤ 1
+  pub mark-bit : (i : ℕ) → i < length row → getD marks i 0 ≤ 1
+
+-- how many of the first k places hold a 1 in both lists
+abbrev pub common-ones : ℕ → List ℕ → List ℕ → ℕ
+common-ones k a b = count k (λ i. marked a i && marked b i)
+
+-- the mark of x can be cleared in s, and a row subtracted from the degrees that start at from
+pub record Clears (s : State) (x from : ℕ) (row : List ℕ) : Type 0 where
+  pub node : x < 260
+  pub fits : from + length row ≤ 260
+  pub steps : s .steps < 65535
+  pub enough : (i : ℕ) → i < length row → getD row i 0 ≤ getD (s .degrees) (from + i) 0
+
+-- r is the state s with the mark of x cleared, one step more, and a row subtracted from the degrees that start at from
+pub record Cleared (s : State) (x from : ℕ) (row : List ℕ) (r : State) : Type 0 where
+  pub operators : r .operators ≡ s .operators
+  pub rides : r .rides ≡ s .rides
+  pub steps : r .steps ≡ s .steps + 1
+  pub marks : r .marks ≡ set (s .marks) x 0
+  pub below : (y : ℕ) → y < from → getD (r .degrees) y 0 ≡ getD (s .degrees) y 0
+  pub within : (i : ℕ) → i < length row → getD (r .degrees) (from + i) 0 ≡ getD (s .degrees) (from + i) 0 - getD row i 0
+  pub above : (y : ℕ) → from + length row ≤ y → getD (r .degrees) y 0 ≡ getD (s .degrees) y 0
+
+-- one step: r is the next state after s, with the mark of x cleared
+pub record Stepped (g : Graph) (s : State) (x : ℕ) (r : State) : Type 0 where
+  pub steps : r .steps ≡ s .steps + 1
+  pub marks : r .marks ≡ set (s .marks) x 0
+  pub state : StateOf g r
+
+-- at most the allowed steps from s: r has taken the removals of the definition, and has the marks that they leave
+pub record Ran (g : Graph) (limit : ℕ → ℕ) (allowed : ℕ) (s r : State) : Type 0 where
+  pub steps : r .steps ≡ length (removals g limit allowed (s .marks))
+  pub marks : r .marks ≡ peel g limit allowed (s .marks)
+  pub state : StateOf g r
+
+-- the answer and the marks at exit are those of the outcome
+pub record Gives (o : PeelOutcome) (r : Peeled) (left : List ℕ) : Type 0 where
+  pub answer : r ≡ o .answer
+  pub marks : left ≡ o .marks

@@ -1,0 +1,256 @@
+// The peel: its state travels by value, and each step hands on the next one. A step costs one row of a table and one pass over the nodes.
+ghost use mathlib.Core.Path.{_≡_};
+ghost use mathlib.Core.Bool.{_&&_};
+ghost use mathlib.Core.List.{_++_};
+ghost use Prim.Native.Nat.{ℕ, _+_, _-_, _*_, _≤_, _<_};
+ghost use lib.Dec.{T, ltb, eqb};
+ghost use lib.ListN.{length, getD, take, drop};
+ghost use Rattle.model.specs.Count.{bit, lowest};
+ghost use Rattle.model.specs.Graph.{Graph, nodes, degree, limits, marked, short, settled};
+ghost use Rattle.model.specs.Calls.{peeled};
+ghost use Rattle.peeling.specs.Steps.{Tables, Ready, Degrees, StateOf, Started, Beside, common-ones, Clears, Cleared, Stepped, Ran, Gives};
+use model::Head;
+use model::Peeled;
+
+// The state of a peel: the remaining degree of every node, marked or not (operators first, then rides), the marks, the sizes, and the steps taken.
+pub struct State {
+    pub degrees: [u8; 260],
+    pub marks: [u16; 260],
+    pub operators: u16,
+    pub rides: u16,
+    pub steps: u16,
+}
+
+// How many places have a 1 in the row and in the marks.
+fn common(row: &[u8], marks: &[u16]) -> u8
+    requires { ⌜ Beside (now row) (now marks) ⌝ }
+    ensures { λ r. ⌜ r ≡ common-ones (length (now (row .entry))) (now (row .entry)) (now (marks .entry)) ⌝ }
+{
+    let n = row.len();
+    let mut sum: u8 = 0;
+    let mut i = 0;
+    while i < n {
+        sum += row[i] * (marks[i] as u8);
+        i += 1;
+    }
+    sum
+}
+
+// The degree of node x inside the marks.
+fn degree_of(
+    operators: usize,
+    rides: usize,
+    rows: &[u8],
+    columns: &[u8],
+    marks: &[u16],
+    x: usize,
+) -> u8
+    requires { ⌜ ((g : Graph) × Ready g operators rides (now rows) (now columns) (now marks)) ⌝ }
+    requires { ⌜ x < operators + rides ⌝ }
+    ensures { λ r. ⌜ ((g : Graph) → Ready g operators rides (now (rows .entry)) (now (columns .entry)) (now (marks .entry)) → r ≡ degree g (marked (now (marks .entry))) x) ⌝ }
+{
+    if x < operators {
+        let from = x * 60;
+        return common(
+            &rows[from..from + rides],
+            &marks[operators..operators + rides],
+        );
+    }
+    let from = (x - operators) * 200;
+    common(&columns[from..from + operators], &marks[0..operators])
+}
+
+// Fills in the degrees of all nodes inside the marks.
+fn fill_degrees(
+    operators: usize,
+    rides: usize,
+    rows: &[u8],
+    columns: &[u8],
+    marks: &[u16],
+    degrees: &mut [u8],
+)
+    requires { ⌜ ((g : Graph) × Ready g operators rides (now rows) (now columns) (now marks)) ⌝ }
+    requires { ⌜ operators + rides ≤ length (now degrees) ⌝ }
+    ensures { λ _. ⌜ ((g : Graph) → Ready g operators rides (now (rows .entry)) (now (columns .entry)) (now (marks .entry)) → Degrees g (now (marks .entry)) (now (degrees .exit))) ⌝ }
+{
+    let nodes = operators + rides;
+    let mut x = 0;
+    while x < nodes {
+        degrees[x] = degree_of(operators, rides, rows, columns, marks, x);
+        x += 1;
+    }
+}
+
+// Copies the first n marks.
+fn copy_marks(from: &[u16], to: &mut [u16], n: usize)
+    requires { ⌜ (n ≤ length (now from)) × (n ≤ length (now to)) ⌝ }
+    ensures { λ _. ⌜ now (to .exit) ≡ take n (now (from .entry)) ++ drop n (now (to .entry)) ⌝ }
+{
+    let mut i = 0;
+    while i < n {
+        to[i] = from[i];
+        i += 1;
+    }
+}
+
+// Subtracts a row of a table from the degrees.
+fn subtract_row(degrees: &mut [u8], row: &[u8])
+    requires { ⌜ length (now degrees) ≡ length (now row) ⌝ }
+    requires { ⌜ ((i : ℕ) → i < length (now row) → getD (now row) i 0 ≤ getD (now degrees) i 0) ⌝ }
+    ensures { λ _. ⌜ ((i : ℕ) → i < length (now (row .entry)) → getD (now (degrees .exit)) i 0 ≡ getD (now (degrees .entry)) i 0 - getD (now (row .entry)) i 0) ⌝ }
+{
+    let n = degrees.len();
+    let mut i = 0;
+    while i < n {
+        degrees[i] = degrees[i] - row[i];
+        i += 1;
+    }
+}
+
+// Whether a node with this mark and this degree falls short of the limit.
+fn falls_short(mark: u16, degree: u8, limit: u16) -> bool
+    ensures { λ r. ⌜ r ≡ (eqb mark 1 && ltb degree limit) ⌝ }
+{
+    mark == 1 && (degree as u16) < limit
+}
+
+// The limit of node x.
+fn limit_of(operators: usize, alpha: u16, beta: u16, x: usize) -> u16
+    ensures { λ r. ⌜ ((g : Graph) → operators ≡ g .operators → r ≡ limits g alpha beta x) ⌝ }
+{
+    if x < operators { alpha } else { beta }
+}
+
+impl State {
+    // The first state, from marks that came in.
+    fn start(head: Head, rows: &[u8], columns: &[u8], marks: &[u16]) -> State
+        requires { ⌜ ((g : Graph) × Ready g (head .operators) (head .rides) (now rows) (now columns) (now marks)) ⌝ }
+        ensures { λ r. ⌜ ((g : Graph) → Ready g (head .operators) (head .rides) (now (rows .entry)) (now (columns .entry)) (now (marks .entry)) → Started g (now (marks .entry)) r) ⌝ }
+    {
+        let operators = head.operators as usize;
+        let rides = head.rides as usize;
+        let mut kept = [0u16; 260];
+        copy_marks(marks, &mut kept, operators + rides);
+        let mut degrees = [0u8; 260];
+        fill_degrees(operators, rides, rows, columns, &kept, &mut degrees);
+        State {
+            degrees: degrees,
+            marks: kept,
+            operators: head.operators,
+            rides: head.rides,
+            steps: 0,
+        }
+    }
+
+    // The lowest node that falls short, or the number of nodes where nobody does.
+    fn lowest_short(self, alpha: u16, beta: u16) -> usize
+        requires { ⌜ self .operators + self .rides ≤ 260 ⌝ }
+        ensures { λ r. ⌜ ((g : Graph) → StateOf g self → r ≡ lowest (nodes g) (short g (limits g alpha beta) (self .marks))) ⌝ }
+    {
+        let operators = self.operators as usize;
+        let rides = self.rides as usize;
+        let nodes = operators + rides;
+        let mut x = 0;
+        while x < nodes {
+            if falls_short(
+                self.marks[x],
+                self.degrees[x],
+                limit_of(operators, alpha, beta, x),
+            ) {
+                return x;
+            }
+            x += 1;
+        }
+        x
+    }
+
+    // The state with the mark of x cleared, and a row subtracted from the degrees that start at from.
+    fn cleared(self, x: usize, from: usize, row: &[u8]) -> State
+        requires { ⌜ Clears self x from (now row) ⌝ }
+        ensures { λ r. ⌜ Cleared self x from (now (row .entry)) r ⌝ }
+    {
+        let to = from + row.len();
+        let mut degrees = self.degrees;
+        subtract_row(&mut degrees[from..to], row);
+        let mut next = self;
+        next.degrees = degrees;
+        next.marks[x] = 0;
+        next.steps = self.steps + 1;
+        next
+    }
+
+    // The next state: the marked node x is cleared, and each of its neighbours has one degree less.
+    pub fn step(self, rows: &[u8], columns: &[u8], x: usize) -> State
+        requires { ⌜ ((g : Graph) × Tables g (now rows) (now columns) × StateOf g self) ⌝ }
+        requires { ⌜ (x < self .operators + self .rides) × T (marked (self .marks) x) × (self .steps < 65535) ⌝ }
+        ensures { λ r. ⌜ ((g : Graph) → Tables g (now (rows .entry)) (now (columns .entry)) → StateOf g self → Stepped g self x r) ⌝ }
+    {
+        let operators = self.operators as usize;
+        let rides = self.rides as usize;
+        if x < operators {
+            let from = x * 60;
+            return self.cleared(x, operators, &rows[from..from + rides]);
+        }
+        let from = (x - operators) * 200;
+        self.cleared(x, 0, &columns[from..from + operators])
+    }
+
+    // The state after steps that each clear the lowest node that falls short, as many as are allowed and needed.
+    pub fn run(self, rows: &[u8], columns: &[u8], alpha: u16, beta: u16, allowed: u16) -> State
+        requires { ⌜ ((g : Graph) × Tables g (now rows) (now columns) × StateOf g self) ⌝ }
+        requires { ⌜ self .steps ≡ 0 ⌝ }
+        ensures { λ r. ⌜ ((g : Graph) → Tables g (now (rows .entry)) (now (columns .entry)) → StateOf g self → Ran g (limits g alpha beta) allowed self r) ⌝ }
+    {
+        let operators = self.operators as usize;
+        let rides = self.rides as usize;
+        let nodes = operators + rides;
+        let mut state = self;
+        while state.steps < allowed {
+            let x = state.lowest_short(alpha, beta);
+            if nodes <= x {
+                return state;
+            }
+            state = state.step(rows, columns, x);
+        }
+        state
+    }
+
+    // Settled (1) where nobody falls short, else unsettled (0).
+    fn settled(self, alpha: u16, beta: u16) -> u16
+        requires { ⌜ self .operators + self .rides ≤ 260 ⌝ }
+        ensures { λ r. ⌜ ((g : Graph) → StateOf g self → r ≡ bit (settled g (limits g alpha beta) (self .marks))) ⌝ }
+    {
+        let operators = self.operators as usize;
+        let rides = self.rides as usize;
+        if self.lowest_short(alpha, beta) < operators + rides {
+            0
+        } else {
+            1
+        }
+    }
+}
+
+// Peel: clears marks, each time the lowest operator that falls short, else the lowest ride, in at most the allowed steps.
+pub fn peel(
+    head: Head,
+    rows: &[u8],
+    columns: &[u8],
+    marks: &mut [u16],
+    alpha: u16,
+    beta: u16,
+    allowed: u16,
+) -> Peeled
+    requires { ⌜ ((g : Graph) × Ready g (head .operators) (head .rides) (now rows) (now columns) (now marks)) ⌝ }
+    ensures { λ r. ⌜ ((g : Graph) → Ready g (head .operators) (head .rides) (now (rows .entry)) (now (columns .entry)) (now (marks .entry)) → Gives (peeled g (limits g alpha beta) allowed (now (marks .entry))) r (now (marks .exit))) ⌝ }
+{
+    let operators = head.operators as usize;
+    let rides = head.rides as usize;
+    let last = State::start(head, rows, columns, marks).run(rows, columns, alpha, beta, allowed);
+    let left = last.marks;
+    copy_marks(&left, marks, operators + rides);
+    Peeled {
+        code: 0,
+        settled: last.settled(alpha, beta),
+        steps: last.steps,
+    }
+}
