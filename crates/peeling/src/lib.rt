@@ -1,8 +1,9 @@
 // The peel: its state travels by value, and each step hands on the next one. A step costs one row of a table and one pass over the nodes.
+// The tables of clearances are lent as rows, by operator in rows of 60 rides, and as columns, by ride in rows of 200 operators.
 ghost use mathlib.Core.Path.{_≡_};
 ghost use mathlib.Core.Bool.{_&&_};
 ghost use mathlib.Core.List.{_++_};
-ghost use Prim.Native.Nat.{ℕ, _+_, _-_, _*_, _≤_, _<_};
+ghost use Prim.Native.Nat.{ℕ, _+_, _-_, _≤_, _<_};
 ghost use lib.Dec.{T, ltb, eqb};
 ghost use lib.ListN.{length, getD, take, drop};
 ghost use Rattle.model.specs.Count.{bit, lowest};
