@@ -12,6 +12,7 @@ ghost use Rattle.model.specs.Calls.{peeled};
 ghost use Rattle.peeling.specs.Steps.{Tables, Ready, Degrees, StateOf, Started, Beside, common-ones, Clears, Cleared, Stepped, Ran, Gives};
 use model::Head;
 use model::Peeled;
+use tables::subtract;
 
 // The state of a peel: the remaining degree of every node, marked or not (operators first, then rides), the marks, the sizes, and the steps taken.
 pub struct State {
@@ -94,20 +95,6 @@ fn copy_marks(from: &[u16], to: &mut [u16], n: usize)
     }
 }
 
-// Subtracts a row of a table from the degrees.
-fn subtract_row(degrees: &mut [u8], row: &[u8])
-    requires { ⌜ length (now degrees) ≡ length (now row) ⌝ }
-    requires { ⌜ ((i : ℕ) → i < length (now row) → getD (now row) i 0 ≤ getD (now degrees) i 0) ⌝ }
-    ensures { λ _. ⌜ ((i : ℕ) → i < length (now (row .entry)) → getD (now (degrees .exit)) i 0 ≡ getD (now (degrees .entry)) i 0 - getD (now (row .entry)) i 0) ⌝ }
-{
-    let n = degrees.len();
-    let mut i = 0;
-    while i < n {
-        degrees[i] = degrees[i] - row[i];
-        i += 1;
-    }
-}
-
 // Whether a node with this mark and this degree falls short of the limit.
 fn falls_short(mark: u16, degree: u8, limit: u16) -> bool
     ensures { λ r. ⌜ r ≡ (eqb mark 1 && ltb degree limit) ⌝ }
@@ -172,7 +159,7 @@ impl State {
     {
         let to = from + row.len();
         let mut degrees = self.degrees;
-        subtract_row(&mut degrees[from..to], row);
+        subtract(&mut degrees[from..to], row);
         let mut next = self;
         next.degrees = degrees;
         next.marks[x] = 0;

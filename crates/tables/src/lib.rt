@@ -1,8 +1,8 @@
-// The pair arrays: the check of their order and range, and the dense tables of clearances that are filled from them.
+// The pair arrays: the check of their order and range, and the dense tables of clearances: their filling, and the subtraction of a row.
 ghost use mathlib.Core.Path.{_≡_};
 ghost use mathlib.Core.Bool.{not};
 ghost use mathlib.Core.List.{List};
-ghost use Prim.Native.Nat.{ℕ, _+_, _*_, _<_, _≤_};
+ghost use Prim.Native.Nat.{ℕ, _+_, _-_, _*_, _<_, _≤_};
 ghost use lib.ListN.{length, getD};
 ghost use Rattle.model.specs.Count.{bit};
 ghost use Rattle.model.specs.Layout.{listed};
@@ -72,5 +72,19 @@ pub fn fill(
         let j = columns[k] as usize;
         table[i * width + j] = 1;
         k += 1;
+    }
+}
+
+// Subtracts a row of a table from the degrees.
+pub fn subtract(degrees: &mut [u8], row: &[u8])
+    requires { ⌜ length (now degrees) ≤ length (now row) ⌝ }
+    requires { ⌜ ((j : ℕ) → j < length (now degrees) → getD (now row) j 0 ≤ getD (now degrees) j 0) ⌝ }
+    ensures { λ _. ⌜ ((j : ℕ) → j < length (now (degrees .entry)) → getD (now (degrees .exit)) j 0 ≡ getD (now (degrees .entry)) j 0 - getD (now (row .entry)) j 0) ⌝ }
+{
+    let n = degrees.len();
+    let mut j = 0;
+    while j < n {
+        degrees[j] = degrees[j] - row[j];
+        j += 1;
     }
 }

@@ -8,14 +8,15 @@ use native.Mathlib.Omega.{arith}
 use Rattle.peeling.proofs.State.cleared.Statement.{statement}
 use Rattle.peeling.proofs.State.cleared.Tie as tie
 
+-- the degree array has 260 entries
 long : (c : tie.Start) → length (c .args .self .degrees) ≡ 260
 long c = search needs
 
 add-to : tie.Need-add-to
 add-to c = search needs
 
-sub-subtract-row : tie.Need-sub-subtract-row
-sub-subtract-row c = search needs
+sub-subtract : tie.Need-sub-subtract
+sub-subtract c = search needs
 
 part-degrees-start : tie.Need-part-degrees-start
 part-degrees-start c = search needs
@@ -23,13 +24,15 @@ part-degrees-start c = search needs
 part-degrees-end : tie.Need-part-degrees-end
 part-degrees-end c = omega (arith, long (c .before .before))
 
-subtract-row-requires : tie.Need-subtract-row-requires
-subtract-row-requires c κs =
+subtract-requires : tie.Need-subtract-requires
+subtract-requires c κs =
     let s = c .before .before .before in
     let a = s .args in
-    let in-array : a .from + length (a .row .now) ≤ length (a .self .degrees) = omega (arith, long s) in (
-      part-length (a .self .degrees) (a .from) (length (a .row .now)) in-array,
-      λ i h. omega (arith, part-at (a .self .degrees) (a .from) (length (a .row .now)) in-array i 0 h, s .pre .enough i h),
+    let n = length (a .row .now) in
+    let in-array : a .from + n ≤ length (a .self .degrees) = omega (arith, long s) in
+    let size = part-length (a .self .degrees) (a .from) n in-array in (
+      omega (arith, size),
+      λ i h. omega (arith, part-at (a .self .degrees) (a .from) n in-array i 0 (omega (arith, size)), s .pre .enough i (omega (arith, size))),
     )
 
 mul-next : tie.Need-mul-next
@@ -48,8 +51,8 @@ returns c =
     let d = a .self .degrees in
     let n = length (a .row .now) in
     let in-array : a .from + n ≤ length d = omega (arith, long s) in
-    let new = c .before .before .subtract-row .last .0 in
-    let size : length new ≡ n = c .before .before .subtract-row .kept .0 ∙ part-length d (a .from) n in-array in
+    let new = c .before .before .subtract .last .0 in
+    let size : length new ≡ n = c .before .before .subtract .kept .0 ∙ part-length d (a .from) n in-array in
     record {
       operators = refl;
       rides = refl;
@@ -58,7 +61,7 @@ returns c =
       below = λ y h. put-before d new _ (a .from) (omega arith) y 0 h;
       within = λ i h.
           put-at d new _ (a .from) (omega arith) i 0 (omega arith) ∙
-          c .before .before .subtract-row .ensures i h ∙
+          c .before .before .subtract .ensures i (omega (arith, part-length d (a .from) n in-array)) ∙
           ap (λ (k : ℕ). k - getD (a .row .now) i 0) (part-at d (a .from) n in-array i 0 h);
       above = λ y h. put-after d new (a .from) n in-array size y 0 h;
     }
@@ -68,10 +71,10 @@ cleared-spec =
     tie.close
     (tie.spec
     add-to
-    sub-subtract-row
+    sub-subtract
     part-degrees-start
     part-degrees-end
-    subtract-row-requires
+    subtract-requires
     mul-next
     element-write-next
     add-next

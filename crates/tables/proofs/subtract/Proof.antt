@@ -1,22 +1,22 @@
--- `peeling::subtract_row` meets its contract. The loop's invariant: the first i differences are written. Assumes nothing.
+-- `tables::subtract` meets its contract. The loop's invariant: the first j differences are written. Assumes nothing.
 use borrow.Author.Needs.{needs}
 use Prim.Native.Nat.{ℕ, _≤_, _<_, _-_}
 use mathlib.Core.Path.{_≡_, refl, ap}
 use lib.ListN.{length, getD, length-set}
 use native.Mathlib.Omega.{arith}
 use Rattle.model.proofs.Store.{stored, left-alone}
-use Rattle.peeling.proofs.subtract_row.Statement.{statement}
-use Rattle.peeling.proofs.subtract_row.Tie as tie
+use Rattle.tables.proofs.subtract.Statement.{statement}
+use Rattle.tables.proofs.subtract.Tie as tie
 
 abbrev Inv-loop : tie.InvT-loop
-Inv-loop degrees₀ row n i₀ degrees i =
-    (i ≤ n) ×
+Inv-loop degrees₀ row n j₀ degrees j =
+    (j ≤ n) ×
     (length degrees ≡ length degrees₀) ×
-    ((k : ℕ) → k < i → getD degrees k 0 ≡ getD degrees₀ k 0 - getD row k 0) ×
-    ((k : ℕ) → i ≤ k → getD degrees k 0 ≡ getD degrees₀ k 0)
+    ((k : ℕ) → k < j → getD degrees k 0 ≡ getD degrees₀ k 0 - getD row k 0) ×
+    ((k : ℕ) → j ≤ k → getD degrees k 0 ≡ getD degrees₀ k 0)
 
 abbrev μ-loop : tie.MeasureT-loop
-μ-loop degrees₀ row n i₀ degrees i = n - i
+μ-loop degrees₀ row n j₀ degrees j = n - j
 
 loop-holds : tie.Need-loop-holds Inv-loop μ-loop
 loop-holds c = (omega arith, refl, (λ k h. absurd (let z : ⊥ = omega arith in z)), (λ k h. refl))
@@ -31,13 +31,13 @@ sub-degrees : tie.Need-sub-degrees Inv-loop μ-loop
 sub-degrees c =
     let l = c .before .before .before .loop in
     let a = c .before .before .before .before in
-    omega (arith, a .pre .1 (l .i) (omega arith), l .inv .3 (l .i) (omega arith))
+    omega (arith, a .pre .1 (l .j) (omega arith), l .inv .3 (l .j) (omega arith))
 
 slice-write-degrees : tie.Need-slice-write-degrees Inv-loop μ-loop
 slice-write-degrees c = search needs
 
-add-i : tie.Need-add-i Inv-loop μ-loop
-add-i c = search needs
+add-j : tie.Need-add-j Inv-loop μ-loop
+add-j c = search needs
 
 loop-less : tie.Need-loop-less Inv-loop μ-loop
 loop-less c = search needs
@@ -46,11 +46,11 @@ loop-again : tie.Need-loop-again Inv-loop μ-loop
 loop-again c =
     let l = c .before .before .before .loop in
     let a = c .before .before .before .before .args in
-    let value = ap (λ (d : ℕ). d - getD (a .row .now) (l .i) 0) (l .inv .3 (l .i) (omega arith)) in (
+    let value = ap (λ (d : ℕ). d - getD (a .row .now) (l .j) 0) (l .inv .3 (l .j) (omega arith)) in (
       omega arith,
       simp length-set (omega arith),
-      stored (λ k. getD (a .degrees .now) k 0 - getD (a .row .now) k 0) (a .degrees .now) (l .degrees) (l .i) _ (omega arith) value (l .inv .2),
-      left-alone (λ k. getD (a .degrees .now) k 0 - getD (a .row .now) k 0) (a .degrees .now) (l .degrees) (l .i) _ (omega arith) value (l .inv .3),
+      stored (λ k. getD (a .degrees .now) k 0 - getD (a .row .now) k 0) (a .degrees .now) (l .degrees) (l .j) _ (omega arith) value (l .inv .2),
+      left-alone (λ k. getD (a .degrees .now) k 0 - getD (a .row .now) k 0) (a .degrees .now) (l .degrees) (l .j) _ (omega arith) value (l .inv .3),
     )
 
 same-length : tie.Need-same-length Inv-loop μ-loop
@@ -59,8 +59,8 @@ same-length c = search needs
 returns : tie.Need-returns Inv-loop μ-loop
 returns c = λ k h. c .before .loop .inv .2 k (omega arith)
 
-pub subtract-row-spec : {M : Type 1} → statement M
-subtract-row-spec =
+pub subtract-spec : {M : Type 1} → statement M
+subtract-spec =
     tie.close
     (tie.spec
     Inv-loop
@@ -70,7 +70,7 @@ subtract-row-spec =
     shared-slice-read-degrees
     sub-degrees
     slice-write-degrees
-    add-i
+    add-j
     loop-less
     loop-again
     same-length
