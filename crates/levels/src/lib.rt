@@ -12,20 +12,6 @@ ghost use Rattle.tables.specs.Table.{Table, AcceptedPairs};
 ghost use Rattle.levels.specs.Row.{Side, Visited, Swept, Work, work, table-graph, Fits, Raising, Settled, Rounded, Lower, Least, Start, Everybody, Tables, joined};
 use model::Head;
 
-// Subtracts a row of a table from the degrees.
-fn subtract(degrees: &mut [u8], row: &[u8])
-    requires { ⌜ length (now degrees) ≤ length (now row) ⌝ }
-    requires { ⌜ ((j : ℕ) → j < length (now degrees) → getD (now row) j 0 ≤ getD (now degrees) j 0) ⌝ }
-    ensures { λ _. ⌜ ((j : ℕ) → j < length (now (degrees .entry)) → getD (now (degrees .exit)) j 0 ≡ getD (now (degrees .entry)) j 0 - getD (now (row .entry)) j 0) ⌝ }
-{
-    let n = degrees.len();
-    let mut j = 0;
-    while j < n {
-        degrees[j] = degrees[j] - row[j];
-        j += 1;
-    }
-}
-
 // Removes node i of a side where it is kept and falls short of the limit.
 fn visit(
     kept: &mut [u8],
@@ -51,7 +37,7 @@ fn visit(
     levels[i] = level;
     let at = i * width;
     let end = at + others.len();
-    subtract(others, &table[at..end]);
+    tables::subtract(others, &table[at..end]);
     1
 }
 

@@ -9,7 +9,6 @@ use Rattle.levels.proofs.visit.Statement.{statement}
 use Rattle.levels.proofs.visit.Tie as tie
 use Rattle.levels.proofs.visit.Reads as reads
 use Rattle.levels.proofs.visit.Lts as lts
-use Rattle.levels.proofs.subtract.Reads as subtract-reads
 
 -- src/lib.rt:37:8
 slice-read-if1 : tie.Need-slice-read-if1
