@@ -6,8 +6,8 @@ use mathlib.Core.List.{List, [], _∷_, _++_}
 use Prim.Native.Nat.{ℕ, zero, suc, _+_, _-_, _≤_, _<_}
 use native.Mathlib.Omega.{arith}
 use native.Mathlib.Decide.{decLt, decLe, ℕ-discrete}
-use lib.Dec.{T, ltb, leb, eqb, ltb→lt, lt→ltb, nltb→le, T-not, not-T, eqb→eq}
-use borrow.Author.Tests.{lt-ltb, le-ltb, eq-eqb, ne-eqb}
+use lib.Dec.{T, ltb, eqb, ltb→lt, lt→ltb, T-not, not-T}
+use borrow.Author.Tests.{lt-ltb, le-ltb}
 use lib.ListN.{length, getD, set, take, drop, replicate, take-append-drop, getD-replicate, List·getD-eq-default, List·getD-append, length-set}
 use lib.Seq.{getD-set-same, getD-set-other, set-out, set-append-left, drop-set-lt, length-take-le, take-at}
 use Rattle.model.specs.Count.{bit, count, some, lowest}
