@@ -28,6 +28,11 @@ pub record Board : Type 0 where
   pub stamps : List ℕ
   pub index : List ℕ
 
+-- the board of these lent parts
+abbrev pub lent : Head → List ℕ → List ℕ → List ℕ → List ℕ → Board
+lent h operators rides stamps index =
+    record { head = h; operators = operators; rides = rides; stamps = stamps; index = index }
+
 -- what a call leaves in a lent part: the new words, and past their end the old ones
 abbrev pub over : List ℕ → List ℕ → List ℕ
 over new old = new ++ drop (length new) old

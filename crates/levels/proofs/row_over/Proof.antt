@@ -25,19 +25,19 @@ cast-pairs c = search needs
 
 -- src/lib.rt:495:5
 fill-requires : tie.Need-fill-requires
-fill-requires c κs =     let s = c .before .before .before .before .before .before .before .before .before in
+fill-requires c κs = let s = c .before .before .before .before .before .before .before .before .before in
     let p = s .pre .0 in
     ((p .0 .operators-long, p .0 .rides-long, omega (arith, p .1), range-operators _ _ _ (p .0)), s .pre .1 .0)
 
 -- src/lib.rt:496:5
 fill-requires-2 : tie.Need-fill-requires-2
-fill-requires-2 c κs =     let s = c .before .before .before .before .before .before .before .before .before .before .before .before .before in
+fill-requires-2 c κs = let s = c .before .before .before .before .before .before .before .before .before .before .before .before .before in
     let p = s .pre .0 in
     ((p .0 .rides-long, p .0 .operators-long, omega (arith, p .2), range-rides _ _ _ (p .0)), s .pre .1 .1)
 
 -- src/lib.rt:497:9
 everybody-requires : tie.Need-everybody-requires
-everybody-requires c κs =     let s = c .before .before .before .before .before .before .before .before .before .before .before .before .before .before .before .before .before .before in
+everybody-requires c κs = let s = c .before .before .before .before .before .before .before .before .before .before .before .before .before .before .before .before .before .before in
     let a = s .args in
     let p = s .pre .0 in
     let f₁ = c .before .before .before .before .before .before .before .before .fill in
@@ -46,7 +46,7 @@ everybody-requires c κs =     let s = c .before .before .before .before .before
 
 -- src/lib.rt:498:5
 fill-row-requires : tie.Need-fill-row-requires
-fill-row-requires c κs =     let s = c .before .before .before .before .before .before .before .before .before .before .before .before .before .before .before .before .before .before .before .before .before .before in
+fill-row-requires c κs = let s = c .before .before .before .before .before .before .before .before .before .before .before .before .before .before .before .before .before .before .before .before .before .before in
     let a = s .args in
     let p = s .pre .0 in
     let f₁ = c .before .before .before .before .before .before .before .before .before .before .before .before .fill in
@@ -67,7 +67,7 @@ same-length-3 c = search needs
 
 -- src/lib.rt:478:1
 returns : tie.Need-returns
-returns c =     let s = c .before .before .before .before .before .before .before .before .before .before .before .before .before .before .before .before .before .before .before .before .before .before .before .before .before in
+returns c = let s = c .before .before .before .before .before .before .before .before .before .before .before .before .before .before .before .before .before .before .before .before .before .before .before .before .before in
     let a = s .args in
     let p = s .pre .0 in
     let f₁ = c .before .before .before .before .before .before .before .before .before .before .before .before .before .before .before .fill in

@@ -1,0 +1,77 @@
+use borrow.Author.Needs.{needs}
+use Prim.Native.Nat.{ℕ, _+_, _*_, _≤_, _<_, _-_}
+use mathlib.Core.Path.{_≡_, refl, sym, ap, _∙_, subst}
+use mathlib.Core.Bool.{Bool, true, false, _||_}
+use native.Mathlib.Omega.{arith}
+use lib.Dec.{T}
+use lib.ListN.{length}
+use Rattle.model.specs.Layout.{pair-places, mark-places}
+use Rattle.model.specs.Refusal.{refused-3, lowest-number, table-cases}
+use Rattle.model.proofs.Count.{or-left, or-right}
+use Rattle.model.proofs.Refusal.{enough}
+use Rattle.refusals.proofs.Chain.{alpha-zero, beta-zero, short-parts, table-long, peel-long, peel-table, peel-11, peel-12, peel-0}
+use Rattle.refusals.proofs.peel_number.Statement.{statement}
+use Rattle.refusals.proofs.peel_number.Tie as tie
+use Rattle.refusals.proofs.peel_number.Reads as reads
+use Rattle.refusals.proofs.peel_number.Lts as lts
+use Rattle.refusals.proofs.bad_marks.Reads as bad-marks-reads
+use Rattle.refusals.proofs.short_peel.Reads as short-peel-reads
+use Rattle.refusals.proofs.table_number.Reads as table-number-reads
+
+-- src/lib.rt:144:9
+short-peel-requires : tie.Need-short-peel-requires
+short-peel-requires c κs = search needs
+
+-- src/lib.rt:145:9
+table-number-requires : tie.Need-table-number-requires
+table-number-requires c κs = let a = c .before .before .before .before .args in
+    λ e. let l = peel-long (a .head) (a .operators .now) (a .rides .now) (a .marks .now) (λ t. subst T (sym (c .short-peel .ensures) ∙ e) t) in (l .0, l .1)
+
+-- src/lib.rt:147:9
+returns : tie.Need-returns
+returns c = let a = c .before .before .before .before .before .before .args in
+    let e = c .before .table-number .ensures ∙ ap (λ (z : Bool). lowest-number (table-cases (a .head) z (a .operators .now) (a .rides .now))) (c .before .before .short-peel .ensures) in
+    peel-table (a .head) (a .operators .now) (a .rides .now) (a .marks .now) (a .alpha) (a .beta) _ e (omega arith)
+
+-- src/lib.rt:150:9
+returns-2 : tie.Need-returns-2
+returns-2 c = let a = c .before .before .before .before .before .before .before .args in
+    let e = c .before .before .table-number .ensures ∙ ap (λ (z : Bool). lowest-number (table-cases (a .head) z (a .operators .now) (a .rides .now))) (c .before .before .before .short-peel .ensures) in
+    peel-11 (a .head) (a .operators .now) (a .rides .now) (a .marks .now) (a .alpha) (a .beta) _ e (omega arith) (alpha-zero (a .alpha) (a .beta) (omega arith))
+
+-- src/lib.rt:153:9
+returns-3 : tie.Need-returns-3
+returns-3 c = let a = c .before .before .before .before .before .before .before .before .args in
+    let e = c .before .before .before .table-number .ensures ∙ ap (λ (z : Bool). lowest-number (table-cases (a .head) z (a .operators .now) (a .rides .now))) (c .before .before .before .before .short-peel .ensures) in
+    peel-11 (a .head) (a .operators .now) (a .rides .now) (a .marks .now) (a .alpha) (a .beta) _ e (omega arith) (beta-zero (a .alpha) (a .beta) (omega arith))
+
+-- src/lib.rt:155:8
+bad-marks-requires : tie.Need-bad-marks-requires
+bad-marks-requires c κs = let a = c .before .before .before .before .before .before .before .before .args in
+    let e = c .before .before .before .table-number .ensures ∙ ap (λ (z : Bool). lowest-number (table-cases (a .head) z (a .operators .now) (a .rides .now))) (c .before .before .before .before .short-peel .ensures) in
+    peel-long (a .head) (a .operators .now) (a .rides .now) (a .marks .now) (table-long (a .head) (short-parts (a .head) (a .operators .now) (a .rides .now) (a .marks .now)) (a .operators .now) (a .rides .now) (sym e ∙ omega arith)) .2
+
+-- src/lib.rt:156:9
+returns-4 : tie.Need-returns-4
+returns-4 c = let a = c .before .before .before .before .before .before .before .before .before .before .args in
+    let e = c .before .before .before .before .before .table-number .ensures ∙ ap (λ (z : Bool). lowest-number (table-cases (a .head) z (a .operators .now) (a .rides .now))) (c .before .before .before .before .before .before .short-peel .ensures) in
+    peel-12 (a .head) (a .operators .now) (a .rides .now) (a .marks .now) (a .alpha) (a .beta) _ e (omega arith) (omega arith) (omega arith) (sym (c .before .bad-marks .ensures) ∙ c .if4 .taken)
+
+-- src/lib.rt:134:1
+returns-5 : tie.Need-returns-5
+returns-5 c = let a = c .before .before .before .before .before .before .before .before .before .before .args in
+    let e = c .before .before .before .before .before .table-number .ensures ∙ ap (λ (z : Bool). lowest-number (table-cases (a .head) z (a .operators .now) (a .rides .now))) (c .before .before .before .before .before .before .short-peel .ensures) in
+    peel-0 (a .head) (a .operators .now) (a .rides .now) (a .marks .now) (a .alpha) (a .beta) _ e (omega arith) (omega arith) (omega arith) (sym (c .before .bad-marks .ensures) ∙ c .if4 .left)
+
+pub peel-number-spec : {M : Type 1} → statement M
+peel-number-spec =
+    tie.close
+    (tie.spec
+    short-peel-requires
+    table-number-requires
+    returns
+    returns-2
+    returns-3
+    bad-marks-requires
+    returns-4
+    returns-5)
