@@ -1,0 +1,27 @@
+-- `report::text::put_member` meets its contract. Assumes nothing.
+use borrow.Author.Needs.{needs}
+use native.Mathlib.Omega.{arith}
+use borrow.Author.Tests.{le-leb, lt-leb}
+use Rattle.report.proofs.Write.{wrote-none, wrote-most}
+use Rattle.report.proofs.text.put_member.Statement.{statement}
+use Rattle.report.proofs.text.put_member.Tie as tie
+
+put-node-requires : tie.Need-put-node-requires
+put-node-requires c κs = search needs
+
+same-length : tie.Need-same-length
+same-length c = search needs
+
+returns : tie.Need-returns
+returns c =
+    let call = c .before .before in
+    let test = call .before .before in
+    rw (le-leb _ _ (test .if1 .taken)) (call .put-node .ensures)
+
+returns-2 : tie.Need-returns-2
+returns-2 c =
+    let a = c .before .before .before .args in
+    rw (lt-leb _ _ (c .if1 .left)) (wrote-most 21 (omega arith) (wrote-none (a .out .now) (a .at)))
+
+pub put-member-spec : {M : Type 1} → statement M
+put-member-spec = tie.close (tie.spec put-node-requires same-length returns returns-2)
