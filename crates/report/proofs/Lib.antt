@@ -1,3 +1,4 @@
 pub mod Decimal
+pub mod Sizes
 pub mod Report
 pub mod Write

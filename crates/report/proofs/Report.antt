@@ -1,13 +1,20 @@
--- The text depends on who is in the cover and on the levels, of the nodes below the sizes and no others. Assumes nothing.
-use mathlib.Core.Path.{_≡_, refl, ap₂}
+-- The text from a row of levels is the text of the cover. Assumes nothing.
+use mathlib.Core.Path.{_≡_, refl, ap, ap₂, _∙_}
 use mathlib.Core.Bool.{Bool}
 use mathlib.Core.List.{List, _++_}
-use Prim.Native.Nat.{ℕ, zero, suc, _+_, _<_}
+use Prim.Native.Nat.{ℕ, zero, suc, _+_, _≤_, _<_}
 use native.Mathlib.Nat.{zero-add}
 use native.Mathlib.Omega.{arith}
-use Rattle.model.specs.Count.{count}
-use Rattle.model.proofs.Count.{count-ext}
+use lib.Dec.{leb, leb→le, le→leb}
+use lib.ListN.{length, getD, drop, List·getD-append}
+use Rattle.model.specs.declared.Head.{Head}
+use Rattle.model.specs.Count.{count, values}
+use Rattle.model.specs.Graph.{Graph, nodes, marked, cover, level, row}
+use Rattle.model.specs.Layout.{over, graph}
+use Rattle.model.proofs.Count.{test-ext, count-ext, length-values, getD-values}
+use Rattle.model.proofs.Level.{level-largest, level-in}
 use Rattle.report.specs.Text.{bytes, first-line, member-line, member-lines, report-text}
+use Rattle.report.specs.Program.{cover-lines}
 use Rattle.report.specs.Write.{level-at, member-at}
 
 module _ (name : List ℕ) (p q : ℕ → Bool) (f g : ℕ → ℕ) where
@@ -38,3 +45,32 @@ pub row-text :
     report-text α β n m (member-at β levels 0) (level-at levels 0)
 unfolding report-text
 row-text α β n m levels = simp zero-add
+
+-- ---- the text from row α of a pair table
+
+module _ (h : Head) (operators rides : List ℕ) (α β : ℕ) (a : 1 ≤ α) (b : 1 ≤ β) (old : List ℕ) where
+  abbrev g : Graph
+  g = graph h operators rides
+
+  abbrev levels : List ℕ
+  levels = over (row g α) old
+
+  level-row : (x : ℕ) → x < nodes g → level-at levels 0 x ≡ level g α x
+  unfolding row
+  level-row x l =
+      ap (λ (k : ℕ). getD levels k 0) (zero-add x) ∙
+      List·getD-append (values (nodes g) (level g α)) (drop (length (row g α)) old) 0 x (omega (arith, length-values (level g α) (nodes g))) ∙
+      getD-values (level g α) (nodes g) x 0 l
+
+  -- a node is in the cover exactly if its level is at least β
+  member-row : (x : ℕ) → x < nodes g → member-at β levels 0 x ≡ marked (cover g α β) x
+  member-row x l =
+      ap (leb β) (level-row x l) ∙
+      test-ext (leb β (level g α x)) (marked (cover g α β) x)
+      (λ t. level-in g α x β b l (leb→le β (level g α x) t))
+      (λ t. le→leb β (level g α x) (level-largest g α x β a b l t))
+
+  pub report-row : report-text α β (h .operators) (h .rides) (member-at β levels 0) (level-at levels 0) ≡ cover-lines h operators rides α β
+  unfolding cover-lines
+  report-row =
+      report-ext α β (h .operators) (h .rides) (member-at β levels 0) (marked (cover g α β)) (level-at levels 0) (level g α) member-row level-row

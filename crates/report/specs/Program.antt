@@ -6,7 +6,7 @@ use lib.Dec.{ltb, eqb}
 use lib.ListN.{length, getD}
 use Rattle.model.specs.declared.Head.{Head}
 use Rattle.model.specs.Count.{values}
-use Rattle.model.specs.Graph.{Graph, marked, cover, level}
+use Rattle.model.specs.Graph.{marked, cover, level}
 use Rattle.model.specs.Layout.{graph}
 use Rattle.model.specs.Refusal.{refused-1, refused-2, refused-4, refused-5, refused-11, lowest-number}
 use Rattle.report.specs.Text.{refusal-line, report-text}
@@ -35,40 +35,35 @@ alpha input = word input (3 + 2 * head input .pairs)
 abbrev pub beta : List ℕ → ℕ
 beta input = word input (4 + 2 * head input .pairs)
 
--- the clearance graph of the input
-abbrev pub input-graph : List ℕ → Graph
-input-graph input = graph (head input) (operators input) (rides input)
-
--- what `cover` checks before it reads the pairs: at least 6 bytes (13), 1, 2, 4, exact length 10 + 4 × pairs bytes (13)
-abbrev pub size-cases : List ℕ → List (ℕ × Bool)
-size-cases input =
-    (13, ltb (length input) 6) ∷
-    (1, refused-1 (head input)) ∷
-    (2, refused-2 (head input)) ∷
-    (4, refused-4 (head input)) ∷
-    (13, not (eqb (length input) (10 + 4 * head input .pairs))) ∷
+-- what `cover` checks of its input's length and head: at least 6 bytes (13), 1, 2, 4, exact length 10 + 4 × pairs bytes (13)
+abbrev pub size-cases : ℕ → Head → List (ℕ × Bool)
+size-cases size h =
+    (13, ltb size 6) ∷
+    (1, refused-1 h) ∷
+    (2, refused-2 h) ∷
+    (4, refused-4 h) ∷
+    (13, not (eqb size (10 + 4 * h .pairs))) ∷
     []
 
--- then 5, 11
-abbrev pub table-cases : List ℕ → List (ℕ × Bool)
-table-cases input =
-    (5, refused-5 (head input) (operators input) (rides input)) ∷ (11, refused-11 (alpha input) (beta input)) ∷ []
+-- what it checks after that: 5, 11
+abbrev pub table-cases : Head → List ℕ → List ℕ → ℕ → ℕ → List (ℕ × Bool)
+table-cases h operators rides α β = (5, refused-5 h operators rides) ∷ (11, refused-11 α β) ∷ []
+
+-- the lines of the cover (α, β) of a pair table, with the levels in row α
+unfoldable pub cover-lines : Head → List ℕ → List ℕ → ℕ → ℕ → List ℕ
+cover-lines h operators rides α β =
+    report-text α β (h .operators) (h .rides) (marked (cover (graph h operators rides) α β)) (level (graph h operators rides) α)
+
+-- what is printed: the lines where no number applies (0), else the refusal alone
+abbrev pub printed : ℕ → List ℕ → List ℕ
+printed zero lines = lines
+printed (suc k) lines = refusal-line (suc k)
 
 -- the number of the first check, in the order of `cover`, that refuses the input; 0 if none does
 unfoldable pub cover-refusal : List ℕ → ℕ
-cover-refusal input = lowest-number (size-cases input ++ table-cases input)
+cover-refusal input = lowest-number (size-cases (length input) (head input) ++ table-cases (head input) (operators input) (rides input) (alpha input) (beta input))
 
--- the output of `cover`: a refusal, or the cover (α, β) with the levels in row α
+-- the output of `cover`, from its input
 unfoldable pub cover-text : List ℕ → List ℕ
 cover-text input =
-    elim (cover-refusal input) [
-      | zero ↦
-          report-text
-          (alpha input)
-          (beta input)
-          (head input .operators)
-          (head input .rides)
-          (marked (cover (input-graph input) (alpha input) (beta input)))
-          (level (input-graph input) (alpha input))
-      | suc k ↦ refusal-line (suc k)
-    ]
+    printed (cover-refusal input) (cover-lines (head input) (operators input) (rides input) (alpha input) (beta input))

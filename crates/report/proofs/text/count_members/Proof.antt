@@ -1,21 +1,16 @@
 -- `report::text::count_members` meets its contract. The invariant: those of the first i nodes are counted. Assumes nothing.
 use borrow.Author.Needs.{needs}
 use mathlib.Core.Path.{_≡_, ap}
-use mathlib.Core.Bool.{Bool, true, false}
+use mathlib.Core.Bool.{Bool}
 use mathlib.Core.Logic.{⊎-elim}
 use Prim.Native.Nat.{ℕ, _≤_, _+_, _-_}
-use native.Mathlib.Numerals.{add-one}
 use native.Mathlib.Omega.{arith}
 use borrow.Author.Tests.{le-leb, lt-leb}
 use Rattle.model.specs.Count.{bit, count}
+use Rattle.model.proofs.Count.{count-more}
 use Rattle.report.specs.Write.{level-at, member-at}
 use Rattle.report.proofs.text.count_members.Statement.{statement}
 use Rattle.report.proofs.text.count_members.Tie as tie
-
--- one node more
-count-one : (p : ℕ → Bool) (i : ℕ) (b : Bool) → p i ≡ b → count (i + 1) p ≡ count i p + bit b
-unfolding count
-count-one p i b e = rw (add-one i) (ap (λ (z : Bool). count i p + bit z) e)
 
 abbrev Inv-loop : tie.InvT-loop
 Inv-loop levels first nodes beta members₀ i₀ members i = (i ≤ nodes) × (members ≤ i) × (members ≡ count i (member-at beta levels first))
@@ -52,8 +47,8 @@ loop-again c =
     let p : ℕ → Bool = member-at (a .beta) (a .levels .now) (a .first) in
     let word : ℕ = level-at (a .levels .now) (a .first) (l .i) in
     ⊎-elim
-    (λ w. omega (arith, w .1, l .inv .2, count-one p (l .i) true (le-leb (a .beta) word (w .0 .taken))))
-    (λ w. omega (arith, w .1, l .inv .2, count-one p (l .i) false (lt-leb (a .beta) word (w .0 .left))))
+    (λ w. omega (arith, w .1, l .inv .2, count-more p (l .i), ap bit (le-leb (a .beta) word (w .0 .taken))))
+    (λ w. omega (arith, w .1, l .inv .2, count-more p (l .i), ap bit (lt-leb (a .beta) word (w .0 .left))))
     (c .if1 .came)
 
 returns : tie.Need-returns Inv-loop μ-loop
