@@ -6,10 +6,11 @@ use native.Mathlib.Omega.{arith}
 use native.Mathlib.Numerals.{add-one}
 use native.Mathlib.Nat.{add-zero, zero-add}
 use lib.ListN.{length, getD, set, take, drop, length-append}
-use lib.Seq.{sets, sets-eq, length-take-le, take-suc}
+use lib.Seq.{sets, sets-eq, length-sets, length-take-le, take-suc}
 use Rattle.model.specs.Count.{values}
 use Rattle.model.specs.Layout.{over}
 use Rattle.model.proofs.Count.{length-values}
+use Rattle.report.specs.Program.{cover-text, Reported}
 use Rattle.report.specs.Write.{Wrote}
 
 -- two runs of stores, the second where the first ends
@@ -71,3 +72,13 @@ wrote-most k h w = record { bytes = w .bytes; stops = w .stops; short = omega (a
 -- a bound by the length of the text
 pub wrote-length : {l n a : List ℕ} {at end j : ℕ} (k : ℕ) → length a ≤ k → Wrote l at a j n end → Wrote l at a k n end
 wrote-length k h w = record { bytes = w .bytes; stops = w .stops; short = omega (arith, w .stops) }
+
+-- ---- the whole output
+
+pub reported : {old new text : List ℕ} {r : ℕ} (input : List ℕ) → 5490 ≤ length old → text ≡ cover-text input → Wrote old 0 text 5490 new r → Reported input old new r
+reported {old} {new} {text} {r} input h e w =
+    record {
+      size = w .stops ∙ zero-add (length text) ∙ ap length e;
+      text = w .bytes ∙ sets-over old text (omega (arith, w .stops, w .short)) ∙ ap (λ (x : List ℕ). over x old) e;
+      fits = omega (arith, w .short, ap length (w .bytes), length-sets old 0 text);
+    }

@@ -1,3 +1,4 @@
 pub mod Text
 pub mod Write
 pub mod Program
+pub mod Sample

@@ -1,13 +1,14 @@
 -- Document 01, The program `cover`: a function from the bytes of its input to the bytes of its output.
+use mathlib.Core.Path.{_≡_}
 use mathlib.Core.Bool.{Bool, not}
 use mathlib.Core.List.{List, [], _∷_, _++_}
-use Prim.Native.Nat.{ℕ, zero, suc, _+_, _*_}
+use Prim.Native.Nat.{ℕ, zero, suc, _+_, _*_, _≤_}
 use lib.Dec.{ltb, eqb}
-use lib.ListN.{length, getD}
+use lib.ListN.{length, getD, take}
 use Rattle.model.specs.declared.Head.{Head}
 use Rattle.model.specs.Count.{values}
 use Rattle.model.specs.Graph.{marked, cover, level}
-use Rattle.model.specs.Layout.{graph}
+use Rattle.model.specs.Layout.{over, graph}
 use Rattle.model.specs.Refusal.{refused-1, refused-2, refused-4, refused-5, refused-11, lowest-number}
 use Rattle.report.specs.Text.{refusal-line, report-text}
 
@@ -19,21 +20,25 @@ word input i = getD input (2 * i) 0 + 256 * getD input (2 * i + 1) 0
 abbrev pub words : List ℕ → ℕ → ℕ → List ℕ
 words input start k = values k (λ i. word input (start + i))
 
--- the words of the input: head, operator numbers, ride numbers (as many as pairs), then α, β
+-- the first words of the input: the head
 abbrev pub head : List ℕ → Head
 head input = record { operators = word input 0; rides = word input 1; pairs = word input 2 }
 
-abbrev pub operators : List ℕ → List ℕ
-operators input = words input 3 (head input .pairs)
+-- then the operator numbers, as many as pairs
+abbrev pub operators : List ℕ → ℕ → List ℕ
+operators input pairs = words input 3 pairs
 
-abbrev pub rides : List ℕ → List ℕ
-rides input = words input (3 + head input .pairs) (head input .pairs)
+-- then the ride numbers, as many as pairs
+abbrev pub rides : List ℕ → ℕ → List ℕ
+rides input pairs = words input (3 + pairs) pairs
 
-abbrev pub alpha : List ℕ → ℕ
-alpha input = word input (3 + 2 * head input .pairs)
+-- then α
+abbrev pub alpha : List ℕ → ℕ → ℕ
+alpha input pairs = word input (3 + 2 * pairs)
 
-abbrev pub beta : List ℕ → ℕ
-beta input = word input (4 + 2 * head input .pairs)
+-- then β
+abbrev pub beta : List ℕ → ℕ → ℕ
+beta input pairs = word input (4 + 2 * pairs)
 
 -- what `cover` checks of its input's length and head: at least 6 bytes (13), 1, 2, 4, exact length 10 + 4 × pairs bytes (13)
 abbrev pub size-cases : ℕ → Head → List (ℕ × Bool)
@@ -46,8 +51,8 @@ size-cases size h =
     []
 
 -- what it checks after that: 5, 11
-abbrev pub table-cases : Head → List ℕ → List ℕ → ℕ → ℕ → List (ℕ × Bool)
-table-cases h operators rides α β = (5, refused-5 h operators rides) ∷ (11, refused-11 α β) ∷ []
+abbrev pub content-cases : Head → List ℕ → List ℕ → ℕ → ℕ → List (ℕ × Bool)
+content-cases h operators rides α β = (5, refused-5 h operators rides) ∷ (11, refused-11 α β) ∷ []
 
 -- the lines of the cover (α, β) of a pair table, with the levels in row α
 unfoldable pub cover-lines : Head → List ℕ → List ℕ → ℕ → ℕ → List ℕ
@@ -61,9 +66,25 @@ printed (suc k) lines = refusal-line (suc k)
 
 -- the number of the first check, in the order of `cover`, that refuses the input; 0 if none does
 unfoldable pub cover-refusal : List ℕ → ℕ
-cover-refusal input = lowest-number (size-cases (length input) (head input) ++ table-cases (head input) (operators input) (rides input) (alpha input) (beta input))
+cover-refusal input =
+    let h = head input in
+    lowest-number
+    (size-cases (length input) h ++
+    content-cases h (operators input (h .pairs)) (rides input (h .pairs)) (alpha input (h .pairs)) (beta input (h .pairs)))
 
 -- the output of `cover`, from its input
 unfoldable pub cover-text : List ℕ → List ℕ
 cover-text input =
-    printed (cover-refusal input) (cover-lines (head input) (operators input) (rides input) (alpha input) (beta input))
+    let h = head input in
+    printed (cover-refusal input)
+    (cover-lines h (operators input (h .pairs)) (rides input (h .pairs)) (alpha input (h .pairs)) (beta input (h .pairs)))
+
+-- what the call leaves: the output over the old bytes of the lent buffer, and how many bytes it has
+pub record Reported (input old new : List ℕ) (r : ℕ) : Type 0 where
+  pub size : r ≡ length (cover-text input)
+  pub text : new ≡ over (cover-text input) old
+  pub fits : r ≤ length new
+
+-- no byte after the first 48,011 changes the output: the longest board has 48,010 bytes
+abbrev pub EnoughRead : Type 0
+EnoughRead = (input : List ℕ) → cover-text (take 48011 input) ≡ cover-text input

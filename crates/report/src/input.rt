@@ -27,6 +27,7 @@ pub fn copy_words(input: &[u8], start: usize, n: usize, to: &mut [u16])
     }
 }
 
+// The head, from the first three words.
 pub fn head_of(input: &[u8]) -> Head
     requires { ⌜ 6 ≤ length (now input) ⌝ }
     ensures { λ r. ⌜ r ≡ head (now (input .entry)) ⌝ }

@@ -138,9 +138,9 @@ pub fn put_cover(
 {
     let n = operators as usize;
     let m = rides as usize;
-    let covered = count_members(levels, 0, n, beta);
-    let staffed = count_members(levels, n, m, beta);
-    let first = put_first(out, at, alpha, beta, covered, staffed);
+    let operator_count = count_members(levels, 0, n, beta);
+    let ride_count = count_members(levels, n, m, beta);
+    let first = put_first(out, at, alpha, beta, operator_count, ride_count);
     let second = put_members(out, first, b"operator ", levels, 0, n, beta);
     put_members(out, second, b"ride ", levels, n, m, beta)
 }
