@@ -28,7 +28,7 @@ core-ext g α β s t same c =
     }
 
 -- what a query marks
-query-marked : (h : Head) (index : List ℕ) (α β x : ℕ) → x < mark-places h → marked (query-marks h index α β) x ≡ (leb α (h .rides) && leb β (getD index ((α - 1) * mark-places h + x) 0))
+pub query-marked : (h : Head) (index : List ℕ) (α β x : ℕ) → x < mark-places h → marked (query-marks h index α β) x ≡ (leb α (h .rides) && leb β (getD index ((α - 1) * mark-places h + x) 0))
 unfolding query-marks
 query-marked h index α β x l =
     let b : ℕ → Bool = λ y. leb α (h .rides) && leb β (getD index ((α - 1) * mark-places h + y) 0) in

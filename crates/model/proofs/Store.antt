@@ -1,12 +1,13 @@
 -- Lists as loops and calls leave them: values stored place by place, and a part that is lent. Assumes nothing.
-use mathlib.Core.Path.{_≡_, refl, ap, _∙_, subst}
+use mathlib.Core.Path.{_≡_, refl, sym, ap, ap₂, _∙_, subst}
 use mathlib.Core.List.{List, _++_}
 use Prim.Native.Nat.{ℕ, zero, suc, _+_, _-_, _≤_, _<_}
 use native.Mathlib.Numerals.{add-one}
 use native.Mathlib.Omega.{arith}
 use native.Mathlib.Decide.{decLt}
-use lib.ListN.{length, getD, set, take, drop, replicate, length-take, length-drop, List·getD-append}
-use lib.Seq.{getD-set-same, getD-set-other, getD-take, getD-drop, length-take-le, getD-append-add, take-suc, drop-cons, set-at, append-snoc}
+use lib.ListN.{length, getD, set, take, drop, replicate, length-take, length-drop, List·getD-append, take-append-drop}
+use lib.Seq.{getD-set-same, getD-set-other, getD-take, getD-drop, length-take-le, getD-append-add, take-suc, drop-cons, set-at, append-snoc, ext-getD}
+use Rattle.model.specs.Layout.{over}
 
 -- a loop stores f 0, f 1, .. : what holds behind the place i and ahead of it after one store
 module _ (f : ℕ → ℕ) (l₀ l : List ℕ) (i v : ℕ) (fits : i < length l) (value : v ≡ f i) where
@@ -70,3 +71,9 @@ pub copied-more : (s d : List ℕ) (i : ℕ) → i < length s → i < length d �
 copied-more s d i h l =
     rw (add-one, drop-cons d i 0 l, take-suc s i 0 h, append-snoc)
     (set-at (take i s) (getD d i 0) (drop (suc i) d) (getD s i 0) i (length-take-le i s (omega arith)))
+
+-- a list that has the new words first, and then what the old one had behind them
+pub over-is : (l old new : List ℕ) → length new ≤ length l → ((i : ℕ) → i < length new → getD l i 0 ≡ getD new i 0) → drop (length new) l ≡ drop (length new) old → l ≡ over new old
+over-is l old new long first rest =
+    sym (take-append-drop (length new) l) ∙
+    ap₂ (λ (x y : List ℕ). x ++ y) (ext-getD 0 (take (length new) l) new (length-take-le (length new) l long) (λ i h. getD-take (length new) l i 0 (omega (arith, length-take-le (length new) l long)) ∙ first i (omega (arith, length-take-le (length new) l long)))) rest

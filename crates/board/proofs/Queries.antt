@@ -1,0 +1,144 @@
+-- A query: the marks and counts of one row, and the whole outcome. Assumes nothing.
+use mathlib.Core.Path.{_≡_, refl, sym, ap, ap₂, _∙_, subst}
+use mathlib.Core.Logic.{_≢_}
+use mathlib.Core.Bool.{Bool, true, false, _&&_, _||_}
+use mathlib.Core.List.{List, _++_}
+use Prim.Native.Nat.{ℕ, zero, suc, _+_, _-_, _*_, _≤_, _<_}
+use native.Mathlib.Omega.{arith}
+use native.Mathlib.Decide.{decLt}
+use lib.Dec.{T, leb, eqb}
+use borrow.Author.Tests.{eq-eqb, le-leb, lt-leb}
+use lib.ListN.{length, getD, take, drop, length-take, length-drop, length-append, List·getD-append}
+use lib.Seq.{getD-take, getD-drop, drop-at, drop-drop, length-take-le}
+use borrow.Rule.Slice.PartMut.{same-len-mid, drop-put}
+use Rattle.model.specs.declared.Head.{Head}
+use Rattle.model.specs.declared.Counts.{Counts}
+use Rattle.model.specs.Count.{bit, count, values}
+use Rattle.model.specs.Graph.{marked}
+use Rattle.model.specs.Layout.{mark-places, index-places, over}
+use Rattle.model.specs.Refusal.{refused-1, refused-2, refused-3, refused-11, query-refusal}
+use Rattle.model.specs.Calls.{QueryOutcome, query-marks, counts, board-query}
+use Rattle.model.proofs.Count.{or-left, or-right, count-ext, count-mono, test-false, length-values, getD-values}
+use Rattle.model.proofs.Store.{put-before, put-at, front-at, front-after, over-is}
+use Rattle.model.proofs.Refusal.{lowest-none, enough}
+use Rattle.model.proofs.Query.{query-marked}
+use Rattle.board.specs.Words.{Marked, RowMarked, queried}
+
+module _ (row marks : List ℕ) (n β : ℕ) (h : n ≤ length row) (l : length row ≤ length marks) (o r : ℕ) (ops rides : List ℕ) (mo : Marked (take (n - 0) row) β o ops) (lo : length ops ≡ length (take (n - 0) marks)) where
+  abbrev w : ℕ
+  w = length row
+
+  abbrev first : List ℕ
+  first = ops ++ drop (n - 0) marks
+
+  ops-long : length ops ≡ n
+  ops-long = lo ∙ simp length-take (omega arith)
+
+  part-long : length (take (n - 0) row) ≡ n
+  part-long = simp length-take (omega arith)
+
+  first-long : length first ≡ length marks
+  first-long = length-append ops (drop (n - 0) marks) ∙ omega (arith, ops-long, length-drop (n - 0) marks)
+
+  module _ (mr : Marked (take (w - n) (drop n row)) β r rides) (lr : length rides ≡ length (take (w - n) (drop n first))) where
+    abbrev done : List ℕ
+    done = take n first ++ (rides ++ drop (w - n) (drop n first))
+
+    rides-part : length (take (w - n) (drop n row)) ≡ w - n
+    rides-part = simp (length-take, length-drop) (omega arith)
+
+    rides-long : length rides ≡ w - n
+    rides-long = lr ∙ simp (length-take, length-drop) (omega (arith, first-long))
+
+    done-at : (i : ℕ) → i < w → getD done i 0 ≡ bit (leb β (getD row i 0))
+    done-at i k =
+        elim (decLt i n) [
+          | yes b ↦
+              put-before first rides (drop (w - n) (drop n first)) n (omega (arith, first-long)) i 0 b ∙
+              List·getD-append ops (drop (n - 0) marks) 0 i (omega (arith, ops-long)) ∙
+              mo .marks-are i (omega (arith, part-long)) ∙
+              ap (λ (z : ℕ). bit (leb β z)) (getD-take (n - 0) row i 0 (omega arith))
+          | no b ↦
+              (let e : n + (i - n) ≡ i = omega arith in
+              subst (λ (z : ℕ). getD done z 0 ≡ bit (leb β (getD row z 0))) e
+              (put-at first rides (drop (w - n) (drop n first)) n (omega (arith, first-long)) (i - n) 0 (omega (arith, rides-long)) ∙
+              mr .marks-are (i - n) (omega (arith, rides-part)) ∙
+              ap (λ (z : ℕ). bit (leb β z)) (getD-take (w - n) (drop n row) (i - n) 0 (omega arith) ∙ getD-drop n row (i - n) 0)))
+        ]
+
+    pub row-marked : RowMarked row n β marks (record { code = 0; operators = o; rides = r }) done
+    row-marked =
+        record {
+          code = refl;
+          operators = mo .counted ∙ ap (λ (k : ℕ). count k (λ (i : ℕ). leb β (getD (take (n - 0) row) i 0))) part-long ∙ count-ext (λ (i : ℕ). leb β (getD (take (n - 0) row) i 0)) (λ (i : ℕ). leb β (getD row i 0)) n (λ i k. ap (leb β) (getD-take (n - 0) row i 0 (omega arith)));
+          rides = mr .counted ∙ ap (λ (k : ℕ). count k (λ (i : ℕ). leb β (getD (take (w - n) (drop n row)) i 0))) rides-part ∙ count-ext (λ (i : ℕ). leb β (getD (take (w - n) (drop n row)) i 0)) (λ (i : ℕ). leb β (getD row (n + i) 0)) (w - n) (λ i k. ap (leb β) (getD-take (w - n) (drop n row) i 0 k ∙ getD-drop n row i 0));
+          marks-are = done-at;
+          tail = drop-put n w first rides h (omega (arith, first-long)) rides-long ∙ tail-first;
+        }
+      where
+        tail-first : drop w first ≡ drop w marks
+        tail-first =
+            ap (λ (k : ℕ). drop k first) (let e : w ≡ n + (w - n) = omega arith in e) ∙
+            sym (drop-drop (w - n) n first) ∙
+            ap (drop (w - n)) (drop-at ops (drop (n - 0) marks) n ops-long) ∙
+            drop-drop (w - n) (n - 0) marks ∙
+            ap (λ (k : ℕ). drop k marks) (let e : n - 0 + (w - n) ≡ w = omega arith in e)
+
+-- ---- the outcome of a query that is not refused
+
+module _ (h : Head) (index marks : List ℕ) (α β : ℕ) (none : query-refusal h index α β marks ≡ 0) where
+  pub query-done : board-query h index α β marks ≡ queried (counts h (query-marks h index α β)) (over (query-marks h index α β) marks)
+  unfolding board-query
+  query-done = rw (none, board-query)
+
+  marks-long : length (query-marks h index α β) ≡ mark-places h
+  unfolding query-marks
+  marks-long = length-values (λ (x : ℕ). bit (leb α (h .rides) && leb β (getD index ((α - 1) * mark-places h + x) 0))) (mark-places h)
+
+  marks-at : (x : ℕ) → x < mark-places h → getD (query-marks h index α β) x 0 ≡ bit (leb α (h .rides) && leb β (getD index ((α - 1) * mark-places h + x) 0))
+  unfolding query-marks
+  marks-at x l = getD-values (λ (y : ℕ). bit (leb α (h .rides) && leb β (getD index ((α - 1) * mark-places h + y) 0))) (mark-places h) x 0 l
+
+  -- the marks that the code leaves, and its counts
+  module _ (marks′ : List ℕ) (same : length marks′ ≡ length marks) (long : mark-places h ≤ length marks) (tail : drop (mark-places h) marks′ ≡ drop (mark-places h) marks) (are : (x : ℕ) → x < mark-places h → getD marks′ x 0 ≡ bit (leb α (h .rides) && leb β (getD index ((α - 1) * mark-places h + x) 0))) where
+    pub query-over : marks′ ≡ over (query-marks h index α β) marks
+    query-over =
+        over-is marks′ marks (query-marks h index α β) (omega (arith, marks-long))
+        (λ x l. are x (omega (arith, marks-long)) ∙ sym (marks-at x (omega (arith, marks-long))))
+        (subst (λ (k : ℕ). drop k marks′ ≡ drop k marks) (sym marks-long) tail)
+
+    pub query-counts : (o r : ℕ) → o ≡ count (h .operators) (λ x. leb α (h .rides) && leb β (getD index ((α - 1) * mark-places h + x) 0)) → r ≡ count (h .rides) (λ v. leb α (h .rides) && leb β (getD index ((α - 1) * mark-places h + (h .operators + v)) 0)) → queried (record { code = 0; operators = o; rides = r }) marks′ ≡ board-query h index α β marks
+    unfolding counts
+    query-counts o r p q =
+        ap₂ (λ (x : Counts) (y : List ℕ). queried x y) (ap₂ (λ (x y : ℕ). record { code = 0; operators = x; rides = y }) o-is r-is) query-over ∙ sym query-done
+      where
+        o-is : o ≡ count (h .operators) (marked (query-marks h index α β))
+        o-is = p ∙ count-ext (λ (x : ℕ). leb α (h .rides) && leb β (getD index ((α - 1) * mark-places h + x) 0)) (marked (query-marks h index α β)) (h .operators) (λ x l. sym (query-marked h index α β x (omega arith)))
+
+        r-is : r ≡ count (h .rides) (λ v. marked (query-marks h index α β) (h .operators + v))
+        r-is = q ∙ count-ext (λ (v : ℕ). leb α (h .rides) && leb β (getD index ((α - 1) * mark-places h + (h .operators + v)) 0)) (λ (v : ℕ). marked (query-marks h index α β) (h .operators + v)) (h .rides) (λ v l. sym (query-marked h index α β (h .operators + v) (omega arith)))
+
+-- a query that is refused
+pub query-refused : (h : Head) (index marks : List ℕ) (α β k : ℕ) → k ≡ query-refusal h index α β marks → k ≢ 0 → queried (record { code = k; operators = 0; rides = 0 }) marks ≡ board-query h index α β marks
+unfolding board-query
+query-refused h index marks α β zero e n = absurd (n refl)
+query-refused h index marks α β (suc k) e n = rw (sym e, board-query)
+
+-- the parts are long enough where a query is not refused
+pub query-long : (h : Head) (index marks : List ℕ) (α β : ℕ) → query-refusal h index α β marks ≡ 0 → (h .operators ≤ 200) × (h .rides ≤ 60) × (index-places h ≤ length index) × (mark-places h ≤ length marks) × (1 ≤ α) × (1 ≤ β)
+unfolding query-refusal
+query-long h index marks α β e =
+    let n1 = lowest-none 0 (refused-1 h) _ e in
+    let n2 = lowest-none 1 (refused-2 h) _ (n1 .1) in
+    let n3 = lowest-none 2 (refused-3 (index-places h) index || refused-3 (mark-places h) marks) _ (n2 .1) in
+    let n4 = lowest-none 10 (refused-11 α β) _ (n3 .1) in (
+      enough 200 (h .operators) (n1 .0),
+      enough 60 (h .rides) (n2 .0),
+      enough (length index) (index-places h) (λ t. n3 .0 (or-left (refused-3 (index-places h) index) (refused-3 (mark-places h) marks) t)),
+      enough (length marks) (mark-places h) (λ t. n3 .0 (or-right (refused-3 (index-places h) index) (refused-3 (mark-places h) marks) t)),
+      positive α (λ q. n4 .0 (or-left (eqb α 0) (eqb β 0) (subst T (sym (eq-eqb α 0 q)) tt))),
+      positive β (λ q. n4 .0 (or-right (eqb α 0) (eqb β 0) (subst T (sym (eq-eqb β 0 q)) tt))),
+    )
+  where
+    positive : (k : ℕ) → (k ≡ 0 → ⊥) → 1 ≤ k
+    positive k f = elim (decLt 0 k) [ yes l ↦ l | no l ↦ absurd (f (omega arith)) ]

@@ -1,0 +1,123 @@
+use borrow.Author.Needs.{needs}
+use Rattle.board.proofs.board_query.Statement.{statement}
+use Rattle.board.proofs.board_query.Tie as tie
+use Rattle.board.proofs.board_query.Reads as reads
+use Rattle.board.proofs.board_query.Lts as lts
+use Rattle.board.proofs.mark_nobody.Reads as mark-nobody-reads
+use Rattle.board.proofs.query_row.Reads as query-row-reads
+use Rattle.refusals.proofs.query_number.Reads as query-number-reads
+
+-- src/lib.rt:74:9
+query-number-requires : tie.Need-query-number-requires
+query-number-requires c κs = search needs
+
+-- src/lib.rt:76:9
+same-length : tie.Need-same-length
+same-length c = search needs
+
+-- src/lib.rt:76:9
+returns : tie.Need-returns
+returns c = search needs
+
+-- src/lib.rt:82:13
+cast-n : tie.Need-cast-n
+cast-n c = search needs
+
+-- src/lib.rt:83:17
+cast-w : tie.Need-cast-w
+cast-w c = search needs
+
+-- src/lib.rt:83:13
+add-w : tie.Need-add-w
+add-w c = search needs
+
+-- src/lib.rt:85:21
+sub-mark-nobody : tie.Need-sub-mark-nobody
+sub-mark-nobody c = search needs
+
+-- src/lib.rt:85:21
+part-mark-nobody-start : tie.Need-part-mark-nobody-start
+part-mark-nobody-start c = search needs
+
+-- src/lib.rt:85:21
+part-mark-nobody-end : tie.Need-part-mark-nobody-end
+part-mark-nobody-end c = search needs
+
+-- src/lib.rt:85:9
+mark-nobody-requires : tie.Need-mark-nobody-requires
+mark-nobody-requires c κs = search needs
+
+-- src/lib.rt:86:9
+same-length-2 : tie.Need-same-length-2
+same-length-2 c = search needs
+
+-- src/lib.rt:86:9
+returns-2 : tie.Need-returns-2
+returns-2 c = search needs
+
+-- src/lib.rt:92:15
+sub-at : tie.Need-sub-at
+sub-at c = search needs
+
+-- src/lib.rt:92:14
+mul-at : tie.Need-mul-at
+mul-at c = search needs
+
+-- src/lib.rt:93:26
+add-query-row : tie.Need-add-query-row
+add-query-row c = search needs
+
+-- src/lib.rt:93:15
+mul-query-row : tie.Need-mul-query-row
+mul-query-row c = search needs
+
+-- src/lib.rt:93:15
+sub-query-row : tie.Need-sub-query-row
+sub-query-row c = search needs
+
+-- src/lib.rt:93:15
+part-query-row-start : tie.Need-part-query-row-start
+part-query-row-start c = search needs
+
+-- src/lib.rt:93:15
+part-query-row-end : tie.Need-part-query-row-end
+part-query-row-end c = search needs
+
+-- src/lib.rt:93:5
+query-row-requires : tie.Need-query-row-requires
+query-row-requires c κs = search needs
+
+-- src/lib.rt:64:1
+same-length-3 : tie.Need-same-length-3
+same-length-3 c = search needs
+
+-- src/lib.rt:64:1
+returns-3 : tie.Need-returns-3
+returns-3 c = search needs
+
+pub board-query-spec : {M : Type 1} → statement M
+board-query-spec =
+    tie.close
+    (tie.spec
+    query-number-requires
+    same-length
+    returns
+    cast-n
+    cast-w
+    add-w
+    sub-mark-nobody
+    part-mark-nobody-start
+    part-mark-nobody-end
+    mark-nobody-requires
+    same-length-2
+    returns-2
+    sub-at
+    mul-at
+    add-query-row
+    mul-query-row
+    sub-query-row
+    part-query-row-start
+    part-query-row-end
+    query-row-requires
+    same-length-3
+    returns-3)
