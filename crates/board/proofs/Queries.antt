@@ -18,10 +18,11 @@ use Rattle.model.specs.Graph.{marked}
 use Rattle.model.specs.Layout.{mark-places, index-places, over}
 use Rattle.model.specs.Refusal.{refused-1, refused-2, refused-3, refused-11, query-refusal}
 use Rattle.model.specs.Calls.{QueryOutcome, query-marks, counts, board-query}
-use Rattle.model.proofs.Count.{or-left, or-right, count-ext, count-mono, test-false, length-values, getD-values}
-use Rattle.model.proofs.Store.{put-before, put-at, front-at, front-after, over-is}
+use Rattle.model.proofs.Count.{or-left, or-right, count-ext, count-zero, length-values, getD-values}
+use Rattle.model.proofs.Store.{part-length, part-at, put-before, put-at, front-at, front-after, over-is}
 use Rattle.model.proofs.Refusal.{lowest-none, enough}
 use Rattle.model.proofs.Query.{query-marked}
+use Rattle.levels.proofs.Side.{row-inside}
 use Rattle.board.specs.Words.{Marked, RowMarked, queried}
 
 module _ (row marks : List ℕ) (n β : ℕ) (h : n ≤ length row) (l : length row ≤ length marks) (o r : ℕ) (ops rides : List ℕ) (mo : Marked (take (n - 0) row) β o ops) (lo : length ops ≡ length (take (n - 0) marks)) where
@@ -142,3 +143,60 @@ query-long h index marks α β e =
   where
     positive : (k : ℕ) → (k ≡ 0 → ⊥) → 1 ≤ k
     positive k f = elim (decLt 0 k) [ yes l ↦ l | no l ↦ absurd (f (omega arith)) ]
+
+-- α above rides marks nobody
+module _ (h : Head) (index marks : List ℕ) (α β : ℕ) (none : query-refusal h index α β marks ≡ 0) (high : h .rides < α) (zeros : List ℕ) (zeros-long : length zeros ≡ length (take (mark-places h - 0) marks)) (are-zero : (i : ℕ) → i < length (take (mark-places h - 0) marks) → getD zeros i 0 ≡ 0) where
+  long : mark-places h ≤ length marks
+  long = query-long h index marks α β none .3
+
+  zeros-w : length zeros ≡ mark-places h
+  zeros-w = zeros-long ∙ simp length-take (omega (arith, long))
+
+  nobody : (x : ℕ) → (leb α (h .rides) && leb β (getD index ((α - 1) * mark-places h + x) 0)) ≡ false
+  nobody x = ap (λ (b : Bool). b && leb β (getD index ((α - 1) * mark-places h + x) 0)) (lt-leb α (h .rides) high)
+
+  pub query-nobody : queried (record { code = 0; operators = 0; rides = 0 }) (zeros ++ drop (mark-places h - 0) marks) ≡ board-query h index α β marks
+  query-nobody =
+      query-counts h index marks α β none (zeros ++ drop (mark-places h - 0) marks)
+      (length-append zeros (drop (mark-places h - 0) marks) ∙ omega (arith, zeros-w, length-drop (mark-places h - 0) marks, long))
+      long
+      (drop-at zeros (drop (mark-places h - 0) marks) (mark-places h) zeros-w ∙ ap (λ (k : ℕ). drop k marks) (let e : mark-places h - 0 ≡ mark-places h = omega arith in e))
+      (λ x l. List·getD-append zeros (drop (mark-places h - 0) marks) 0 x (omega (arith, zeros-w)) ∙ are-zero x (omega (arith, zeros-long, zeros-w)) ∙ sym (ap bit (nobody x)))
+      0
+      0
+      (sym (count-zero (λ (x : ℕ). leb α (h .rides) && leb β (getD index ((α - 1) * mark-places h + x) 0)) (h .operators) (λ x l t. subst T (nobody x) t)))
+      (sym (count-zero (λ (v : ℕ). leb α (h .rides) && leb β (getD index ((α - 1) * mark-places h + (h .operators + v)) 0)) (h .rides) (λ v l t. subst T (nobody (h .operators + v)) t)))
+
+-- the row of α
+module _ (h : Head) (index marks : List ℕ) (α β : ℕ) (none : query-refusal h index α β marks ≡ 0) (low : α ≤ h .rides) where
+  abbrev at : ℕ
+  at = (α - 1) * mark-places h
+
+  abbrev row : List ℕ
+  row = take (at + mark-places h - at) (drop at index)
+
+  facts : (h .operators ≤ 200) × (h .rides ≤ 60) × (index-places h ≤ length index) × (mark-places h ≤ length marks) × (1 ≤ α) × (1 ≤ β)
+  facts = query-long h index marks α β none
+
+  pub row-end : at + mark-places h ≤ length index
+  row-end = row-inside (h .rides) (mark-places h) (α - 1) (mark-places h) (omega (arith, facts .4)) (omega arith) (length index) (facts .2)
+
+  pub row-long : length row ≡ mark-places h
+  row-long = part-length index at (mark-places h) row-end
+
+  enough-α : leb α (h .rides) ≡ true
+  enough-α = le-leb α (h .rides) low
+
+  word : (x : ℕ) → x < mark-places h → leb β (getD row x 0) ≡ (leb α (h .rides) && leb β (getD index (at + x) 0))
+  word x l = ap (leb β) (part-at index at (mark-places h) row-end x 0 l) ∙ sym (ap (λ (b : Bool). b && leb β (getD index (at + x) 0)) enough-α)
+
+  pub query-row-done : (r : Counts) (marks′ : List ℕ) → length marks′ ≡ length marks → RowMarked row (h .operators) β marks r marks′ → queried r marks′ ≡ board-query h index α β marks
+  query-row-done r marks′ same m =
+      ap (λ (x : Counts). queried x marks′) (λ i. record { code = m .code i; operators = r .operators; rides = r .rides }) ∙
+      query-counts h index marks α β none marks′ same (facts .3)
+      (subst (λ (k : ℕ). drop k marks′ ≡ drop k marks) row-long (m .tail))
+      (λ x l. m .marks-are x (omega (arith, row-long)) ∙ ap bit (word x l))
+      (r .operators)
+      (r .rides)
+      (m .operators ∙ count-ext (λ (x : ℕ). leb β (getD row x 0)) (λ (x : ℕ). leb α (h .rides) && leb β (getD index (at + x) 0)) (h .operators) (λ x l. word x (omega arith)))
+      (m .rides ∙ ap (λ (k : ℕ). count k (λ (v : ℕ). leb β (getD row (h .operators + v) 0))) (let e : length row - h .operators ≡ h .rides = omega (arith, row-long) in e) ∙ count-ext (λ (v : ℕ). leb β (getD row (h .operators + v) 0)) (λ (v : ℕ). leb α (h .rides) && leb β (getD index (at + (h .operators + v)) 0)) (h .rides) (λ v l. word (h .operators + v) (omega arith)))

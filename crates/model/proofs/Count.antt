@@ -120,6 +120,9 @@ module _ (p : ℕ → Bool) where
       (λ t. (k, omega arith, t))
       (λ n. let w = count-witness k (omega (arith, ap bit (test-false (p k) n))) in (w .0, omega (arith, w .1), w .2))
 
+  pub count-zero : (k : ℕ) → ((y : ℕ) → y < k → T (p y) → ⊥) → count k p ≡ 0
+  count-zero k f = elim (decLt 0 (count k p)) [ yes l ↦ (let w = count-witness k l in absurd (f (w .0) (w .1) (w .2))) | no l ↦ omega arith ]
+
   pub some-holds : (k y : ℕ) → y < k → T (p y) → T (some k p)
   unfolding some
   some-holds k y h t = lt→ltb 0 (count k p) (count-pos k y h t)

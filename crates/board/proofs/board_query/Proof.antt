@@ -1,4 +1,11 @@
 use borrow.Author.Needs.{needs}
+use Rattle.levels.proofs.Stored.{index-small}
+use Prim.Native.Nat.{ℕ, _+_, _*_, _-_, _≤_, _<_}
+use mathlib.Core.Path.{_≡_, refl, sym, ap, _∙_, subst}
+use native.Mathlib.Omega.{arith}
+use lib.ListN.{length}
+use Rattle.model.specs.Layout.{mark-places}
+use Rattle.board.proofs.Queries.{query-refused, query-long, query-nobody, row-end, row-long, query-row-done}
 use Rattle.board.proofs.board_query.Statement.{statement}
 use Rattle.board.proofs.board_query.Tie as tie
 use Rattle.board.proofs.board_query.Reads as reads
@@ -17,7 +24,7 @@ same-length c = search needs
 
 -- src/lib.rt:76:9
 returns : tie.Need-returns
-returns c = search needs
+returns c = let a = c .before .before .before .before .before .args in query-refused (a .head) (a .index .now) (a .marks .now) (a .alpha) (a .beta) _ (c .before .query-number .ensures) (omega arith)
 
 -- src/lib.rt:82:13
 cast-n : tie.Need-cast-n
@@ -41,7 +48,10 @@ part-mark-nobody-start c = search needs
 
 -- src/lib.rt:85:21
 part-mark-nobody-end : tie.Need-part-mark-nobody-end
-part-mark-nobody-end c = search needs
+part-mark-nobody-end c = let a = c .before .before .before .before .before .before .before .before .before .args in
+    let q = c .before .before .before .before .before .query-number in
+    let none = sym (q .ensures) ∙ (let z : q .result ≡ 0 = omega arith in z) in
+    query-long (a .head) (a .index .now) (a .marks .now) (a .alpha) (a .beta) none .3
 
 -- src/lib.rt:85:9
 mark-nobody-requires : tie.Need-mark-nobody-requires
@@ -53,23 +63,41 @@ same-length-2 c = search needs
 
 -- src/lib.rt:86:9
 returns-2 : tie.Need-returns-2
-returns-2 c = search needs
+returns-2 c = let a = c .before .before .before .before .before .before .before .before .before .before .before .before .before .args in
+    let q = c .before .before .before .before .before .before .before .before .before .query-number in
+    let none = sym (q .ensures) ∙ (let z : q .result ≡ 0 = omega arith in z) in
+    let v = c .before .before .mark-nobody in
+    query-nobody (a .head) (a .index .now) (a .marks .now) (a .alpha) (a .beta) none (omega arith) (v .last .0) (omega arith) (v .ensures)
 
 -- src/lib.rt:92:15
 sub-at : tie.Need-sub-at
-sub-at c = search needs
+sub-at c = let a = c .before .before .before .before .before .before .before .before .before .args in
+    let q = c .before .before .before .before .before .query-number in
+    let none = sym (q .ensures) ∙ (let z : q .result ≡ 0 = omega arith in z) in
+    query-long (a .head) (a .index .now) (a .marks .now) (a .alpha) (a .beta) none .4
 
 -- src/lib.rt:92:14
 mul-at : tie.Need-mul-at
-mul-at c = search needs
+mul-at c = let a = c .before .before .before .before .before .before .before .before .before .args in
+    let q = c .before .before .before .before .before .query-number in
+    let none = sym (q .ensures) ∙ (let z : q .result ≡ 0 = omega arith in z) in
+    omega (arith, row-end (a .head) (a .index .now) (a .marks .now) (a .alpha) (a .beta) none (omega arith))
 
 -- src/lib.rt:93:26
 add-query-row : tie.Need-add-query-row
-add-query-row c = search needs
+add-query-row c = let a = c .before .before .before .before .before .before .before .before .before .args in
+    let q = c .before .before .before .before .before .query-number in
+    let none = sym (q .ensures) ∙ (let z : q .result ≡ 0 = omega arith in z) in
+    omega (arith, row-end (a .head) (a .index .now) (a .marks .now) (a .alpha) (a .beta) none (omega arith))
 
 -- src/lib.rt:93:15
 mul-query-row : tie.Need-mul-query-row
-mul-query-row c = search needs
+mul-query-row c = let a = c .before .before .before .before .before .before .before .before .before .args in
+    let q = c .before .before .before .before .before .query-number in
+    let none = sym (q .ensures) ∙ (let z : q .result ≡ 0 = omega arith in z) in
+    let e = row-end (a .head) (a .index .now) (a .marks .now) (a .alpha) (a .beta) none (omega arith) in
+    let k = query-long (a .head) (a .index .now) (a .marks .now) (a .alpha) (a .beta) none in
+    omega (arith, index-small (a .alpha - 1) (mark-places (a .head)) (omega (arith, k .1)) (omega (arith, k .0, k .1)))
 
 -- src/lib.rt:93:15
 sub-query-row : tie.Need-sub-query-row
@@ -81,11 +109,19 @@ part-query-row-start c = search needs
 
 -- src/lib.rt:93:15
 part-query-row-end : tie.Need-part-query-row-end
-part-query-row-end c = search needs
+part-query-row-end c = let a = c .before .before .before .before .before .before .before .before .before .args in
+    let q = c .before .before .before .before .before .query-number in
+    let none = sym (q .ensures) ∙ (let z : q .result ≡ 0 = omega arith in z) in
+    row-end (a .head) (a .index .now) (a .marks .now) (a .alpha) (a .beta) none (omega arith)
 
 -- src/lib.rt:93:5
 query-row-requires : tie.Need-query-row-requires
-query-row-requires c κs = search needs
+query-row-requires c κs = let a = c .before .before .before .before .before .before .before .before .before .before .before .args in
+    let q = c .before .before .before .before .before .before .before .query-number in
+    let none = sym (q .ensures) ∙ (let z : q .result ≡ 0 = omega arith in z) in
+    let e = row-long (a .head) (a .index .now) (a .marks .now) (a .alpha) (a .beta) none (omega arith) in
+    let k = query-long (a .head) (a .index .now) (a .marks .now) (a .alpha) (a .beta) none in
+    (omega (arith, e), omega (arith, e, k .3), omega (arith, e, k .0, k .1))
 
 -- src/lib.rt:64:1
 same-length-3 : tie.Need-same-length-3
@@ -93,7 +129,10 @@ same-length-3 c = search needs
 
 -- src/lib.rt:64:1
 returns-3 : tie.Need-returns-3
-returns-3 c = search needs
+returns-3 c = let a = c .before .before .before .before .before .before .before .before .before .before .before .before .before .before .args in
+    let q = c .before .before .before .before .before .before .before .before .before .before .query-number in
+    let none = sym (q .ensures) ∙ (let z : q .result ≡ 0 = omega arith in z) in
+    query-row-done (a .head) (a .index .now) (a .marks .now) (a .alpha) (a .beta) none (omega arith) _ _ (omega arith) (c .before .before .query-row .ensures)
 
 pub board-query-spec : {M : Type 1} → statement M
 board-query-spec =
