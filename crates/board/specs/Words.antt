@@ -5,8 +5,9 @@ use Prim.Native.Nat.{ℕ, _+_, _-_, _<_}
 use lib.Dec.{leb}
 use lib.ListN.{length, getD, drop}
 use Rattle.model.specs.declared.Counts.{Counts}
+use Rattle.model.specs.declared.Peeled.{Peeled}
 use Rattle.model.specs.Count.{bit, count}
-use Rattle.model.specs.Calls.{QueryOutcome}
+use Rattle.model.specs.Calls.{QueryOutcome, PeelOutcome}
 
 -- marks of a row's levels: 1 exactly if the level is at least β, and how many are 1
 pub record Marked (levels : List ℕ) (β r : ℕ) (marks : List ℕ) : Type 0 where
@@ -24,3 +25,7 @@ pub record RowMarked (row : List ℕ) (n β : ℕ) (marks : List ℕ) (r : Count
 -- a query's outcome: its answer and the marks at exit
 abbrev pub queried : Counts → List ℕ → QueryOutcome
 queried r marks = record { answer = r; marks = marks }
+
+-- a peel's outcome: its answer and the marks at exit
+abbrev pub peel-left : Peeled → List ℕ → PeelOutcome
+peel-left r marks = record { answer = r; marks = marks }

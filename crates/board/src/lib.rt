@@ -4,10 +4,15 @@ ghost use Prim.Native.Nat.{ℕ, _<_, _≤_};
 ghost use lib.Dec.{leb};
 ghost use lib.ListN.{length, getD};
 ghost use Rattle.model.specs.Count.{bit};
-ghost use Rattle.model.specs.Calls.{board-query};
-ghost use Rattle.board.specs.Words.{Marked, RowMarked, queried};
+ghost use Rattle.model.specs.Graph.{limits};
+ghost use Rattle.model.specs.Layout.{graph, mark-places};
+ghost use Rattle.model.specs.Calls.{board-query, peeled, board-peel};
+ghost use Rattle.tables.specs.Table.{AcceptedPairs};
+ghost use Rattle.peeling.specs.Steps.{Gives};
+ghost use Rattle.board.specs.Words.{Marked, RowMarked, queried, peel-left};
 use model::Counts;
 use model::Head;
+use model::Peeled;
 
 // 1 where a level is at least beta.
 fn mark(level: u16, beta: u16) -> u16
@@ -91,4 +96,64 @@ pub extern "C" fn board_query(
     }
     let at = (alpha as usize - 1) * w;
     query_row(&index[at..at + w], n, beta, marks)
+}
+
+// Peels over tables of zeros.
+fn peel_over(
+    head: Head,
+    operators: &[u16],
+    rides: &[u16],
+    by_operator: &mut [u8],
+    by_ride: &mut [u8],
+    marks: &mut [u16],
+    alpha: u16,
+    beta: u16,
+    steps: u16,
+) -> Peeled
+    requires { ⌜ AcceptedPairs head (now operators) (now rides) × (length (now «by_operator») ≡ 12000) × (length (now «by_ride») ≡ 12000) × (mark-places head ≤ length (now marks)) ⌝ }
+    requires { ⌜ ((k : ℕ) → getD (now «by_operator») k 0 ≡ 0) ⌝ }
+    requires { ⌜ ((k : ℕ) → getD (now «by_ride») k 0 ≡ 0) ⌝ }
+    requires { ⌜ ((x : ℕ) → x < mark-places head → getD (now marks) x 0 ≤ 1) ⌝ }
+    ensures { λ r. ⌜ Gives (peeled (graph head (now (operators .entry)) (now (rides .entry))) (limits (graph head (now (operators .entry)) (now (rides .entry))) alpha beta) steps (now (marks .entry))) r (now (marks .exit)) ⌝ }
+{
+    let pairs = head.pairs as usize;
+    tables::fill(operators, rides, pairs, 60, 200, by_operator);
+    tables::fill(rides, operators, pairs, 200, 60, by_ride);
+    peeling::peel(head, by_operator, by_ride, marks, alpha, beta, steps)
+}
+
+// Clears, one a step, the mark of the lowest-numbered operator that falls short, else ride, at most the allowed steps.
+#[no_mangle]
+pub extern "C" fn board_peel(
+    head: Head,
+    operators: &[u16],
+    rides: &[u16],
+    marks: &mut [u16],
+    alpha: u16,
+    beta: u16,
+    steps: u16,
+) -> Peeled
+    ensures { λ r. ⌜ peel-left r (now (marks .exit)) ≡ board-peel head (now (operators .entry)) (now (rides .entry)) (now (marks .entry)) alpha beta steps ⌝ }
+{
+    let number = refusals::peel_number(head, operators, rides, marks, alpha, beta);
+    if number != 0 {
+        return Peeled {
+            code: number,
+            settled: 0,
+            steps: 0,
+        };
+    }
+    let mut by_operator = [0u8; 12000];
+    let mut by_ride = [0u8; 12000];
+    peel_over(
+        head,
+        operators,
+        rides,
+        &mut by_operator,
+        &mut by_ride,
+        marks,
+        alpha,
+        beta,
+        steps,
+    )
 }

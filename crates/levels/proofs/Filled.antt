@@ -17,7 +17,7 @@ use Rattle.tables.specs.Table.{Table, InRange, AcceptedPairs}
 use Rattle.levels.specs.Row.{joined, table-graph, Tables}
 
 -- the pair (u, v) is listed whichever array comes first
-listed-swap : (pairs : ℕ) (operators rides : List ℕ) (u v : ℕ) → listed pairs rides operators v u ≡ listed pairs operators rides u v
+pub listed-swap : (pairs : ℕ) (operators rides : List ℕ) (u v : ℕ) → listed pairs rides operators v u ≡ listed pairs operators rides u v
 listed-swap pairs operators rides u v =
     test-ext (listed pairs rides operators v u) (listed pairs operators rides u v)
     (λ t. let w = listed-place pairs rides operators v u t in place-listed pairs operators rides u v (w .0) (w .1) (w .3) (w .2))

@@ -1,0 +1,63 @@
+use borrow.Author.Needs.{needs}
+use mathlib.Core.Path.{_≡_, refl, sym, _∙_}
+use native.Mathlib.Omega.{arith}
+use Rattle.model.proofs.Store.{getD-zeros}
+use Rattle.board.proofs.Peels.{peel-refused, peel-done, peel-accepted}
+use Rattle.board.proofs.board_peel.Statement.{statement}
+use Rattle.board.proofs.board_peel.Tie as tie
+use Rattle.board.proofs.board_peel.Reads as reads
+use Rattle.board.proofs.board_peel.Lts as lts
+use Rattle.board.proofs.peel_over.Reads as peel-over-reads
+use Rattle.refusals.proofs.peel_number.Reads as peel-number-reads
+
+-- src/lib.rt:138:9
+peel-number-requires : tie.Need-peel-number-requires
+peel-number-requires c κs = search needs
+
+-- src/lib.rt:140:9
+same-length : tie.Need-same-length
+same-length c = search needs
+
+-- src/lib.rt:140:9
+returns : tie.Need-returns
+returns c = let a = c .before .before .before .before .before .before .args in peel-refused (a .head) (a .operators .now) (a .rides .now) (a .marks .now) (a .alpha) (a .beta) (a .steps) _ (c .before .peel-number .ensures) (omega arith)
+
+-- src/lib.rt:152:9
+slice-aggregate-peel-over : tie.Need-slice-aggregate-peel-over
+slice-aggregate-peel-over c = search needs
+
+-- src/lib.rt:153:9
+slice-aggregate-peel-over-2 : tie.Need-slice-aggregate-peel-over-2
+slice-aggregate-peel-over-2 c = search needs
+
+-- src/lib.rt:148:5
+peel-over-requires : tie.Need-peel-over-requires
+peel-over-requires c κs = let a = c .before .before .before .before .before .before .before .before .before .args in
+    let q = c .before .before .before .before .peel-number in
+    let none = sym (q .ensures) ∙ (let z : q .result ≡ 0 = omega arith in z) in
+    let k = peel-accepted (a .head) (a .operators .now) (a .rides .now) (a .marks .now) (a .alpha) (a .beta) none in
+    ((k .0, refl, refl, k .1), (getD-zeros 12000, (getD-zeros 12000, k .2)))
+
+-- src/lib.rt:126:1
+same-length-2 : tie.Need-same-length-2
+same-length-2 c = search needs
+
+-- src/lib.rt:126:1
+returns-2 : tie.Need-returns-2
+returns-2 c = let a = c .before .before .before .before .before .before .before .before .before .before .before .before .before .before .args in
+    let q = c .before .before .before .before .before .before .before .before .before .peel-number in
+    let none = sym (q .ensures) ∙ (let z : q .result ≡ 0 = omega arith in z) in
+    peel-done (a .head) (a .operators .now) (a .rides .now) (a .marks .now) (a .alpha) (a .beta) none (a .steps) _ _ (c .before .before .before .before .peel-over .ensures)
+
+pub board-peel-spec : {M : Type 1} → statement M
+board-peel-spec =
+    tie.close
+    (tie.spec
+    peel-number-requires
+    same-length
+    returns
+    slice-aggregate-peel-over
+    slice-aggregate-peel-over-2
+    peel-over-requires
+    same-length-2
+    returns-2)
