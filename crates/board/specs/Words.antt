@@ -1,13 +1,25 @@
 -- What the loops of the calls leave, word by word.
 use mathlib.Core.Path.{_≡_}
 use mathlib.Core.List.{List}
-use Prim.Native.Nat.{ℕ, _+_, _-_, _<_}
+use mathlib.Core.Bool.{Bool, true, false}
+use Prim.Native.Nat.{ℕ, _+_, _-_, _*_, _<_}
 use lib.Dec.{leb}
 use lib.ListN.{length, getD, drop}
 use Rattle.model.specs.declared.Counts.{Counts}
 use Rattle.model.specs.declared.Peeled.{Peeled}
 use Rattle.model.specs.Count.{bit, count}
-use Rattle.model.specs.Calls.{QueryOutcome, PeelOutcome}
+use Rattle.model.specs.Layout.{Board}
+use Rattle.model.specs.Calls.{BuildOutcome, QueryOutcome, PeelOutcome}
+
+-- the stamp of a pair after a build: the starting stamp where it is listed, else 0
+abbrev pub stamp-of : ℕ → Bool → ℕ
+stamp-of start true = start
+stamp-of start false = 0
+
+-- stamps of n operators and m rides, by whether a pair is listed; stamps past them are as they came
+pub record Stamped (is-listed : ℕ → ℕ → Bool) (n m start : ℕ) (old new : List ℕ) : Type 0 where
+  pub stamps : (u v : ℕ) → u < n → v < m → getD new (u * m + v) 0 ≡ stamp-of start (is-listed u v)
+  pub tail : drop (n * m) new ≡ drop (n * m) old
 
 -- marks of a row's levels: 1 exactly if the level is at least β, and how many are 1
 pub record Marked (levels : List ℕ) (β r : ℕ) (marks : List ℕ) : Type 0 where
@@ -29,3 +41,7 @@ queried r marks = record { answer = r; marks = marks }
 -- a peel's outcome: its answer and the marks at exit
 abbrev pub peel-left : Peeled → List ℕ → PeelOutcome
 peel-left r marks = record { answer = r; marks = marks }
+
+-- a build's outcome: its number and the board at exit
+abbrev pub build-left : ℕ → Board → BuildOutcome
+build-left r b = record { code = r; board = b }

@@ -1,18 +1,81 @@
 // The board's calls: build, query and peel. Each answers document 01's number, and leaves the lent parts as the definitions say.
 ghost use mathlib.Core.Path.{_≡_};
-ghost use Prim.Native.Nat.{ℕ, _<_, _≤_};
+ghost use Prim.Native.Nat.{ℕ, _+_, _*_, _<_, _≤_};
 ghost use lib.Dec.{leb};
-ghost use lib.ListN.{length, getD};
+ghost use lib.ListN.{length, getD, drop};
 ghost use Rattle.model.specs.Count.{bit};
 ghost use Rattle.model.specs.Graph.{limits};
-ghost use Rattle.model.specs.Layout.{graph, mark-places};
-ghost use Rattle.model.specs.Calls.{board-query, peeled, board-peel};
-ghost use Rattle.tables.specs.Table.{AcceptedPairs};
+ghost use Rattle.model.specs.Layout.{lent, listed, graph, mark-places};
+ghost use Rattle.model.specs.Calls.{board-build, board-query, peeled, board-peel};
+ghost use Rattle.tables.specs.Table.{InRange, AcceptedPairs};
 ghost use Rattle.peeling.specs.Steps.{Gives};
-ghost use Rattle.board.specs.Words.{Marked, RowMarked, queried, peel-left};
+ghost use Rattle.board.specs.Words.{Marked, RowMarked, Stamped, stamp-of, queried, peel-left, build-left};
 use model::Counts;
 use model::Head;
 use model::Peeled;
+
+// Zeroes the stamps of the first places.
+fn forget(stamps: &mut [u32], places: usize)
+    requires { ⌜ places ≤ length (now stamps) ⌝ }
+    ensures { λ _. ⌜ ((k : ℕ) → k < places → getD (now (stamps .exit)) k 0 ≡ 0) × (drop places (now (stamps .exit)) ≡ drop places (now (stamps .entry))) ⌝ }
+{
+    let mut k = 0;
+    while k < places {
+        stamps[k] = 0;
+        k += 1;
+    }
+}
+
+// Stamps the listed pairs of n operators and m rides, where all stamps are 0.
+fn stamp_pairs(
+    operators: &[u16],
+    rides: &[u16],
+    pairs: usize,
+    n: usize,
+    m: usize,
+    start: u32,
+    stamps: &mut [u32],
+)
+    requires { ⌜ (pairs ≤ length (now operators)) × (pairs ≤ length (now rides)) × (n * m ≤ length (now stamps)) × InRange pairs n m (now operators) (now rides) ⌝ }
+    requires { ⌜ ((k : ℕ) → k < n * m → getD (now stamps) k 0 ≡ 0) ⌝ }
+    ensures { λ _. ⌜ Stamped (listed pairs (now (operators .entry)) (now (rides .entry))) n m start (now (stamps .entry)) (now (stamps .exit)) ⌝ }
+{
+    let mut k = 0;
+    while k < pairs {
+        let u = operators[k] as usize;
+        let v = rides[k] as usize;
+        stamps[u * m + v] = start;
+        k += 1;
+    }
+}
+
+// Zeroes the tails of the pair arrays, stamps the listed pairs and fills the index.
+#[no_mangle]
+pub extern "C" fn board_build(
+    head: Head,
+    operators: &mut [u16],
+    rides: &mut [u16],
+    start: u32,
+    stamps: &mut [u32],
+    index: &mut [u16],
+) -> u16
+    ensures { λ r. ⌜ build-left r (lent head (now (operators .exit)) (now (rides .exit)) (now (stamps .exit)) (now (index .exit))) ≡ board-build (lent head (now (operators .entry)) (now (rides .entry)) (now (stamps .entry)) (now (index .entry))) start ⌝ }
+{
+    let number = refusals::build_number(head, operators, rides, start, stamps, index);
+    if number != 0 {
+        return number;
+    }
+    let n = head.operators as usize;
+    let m = head.rides as usize;
+    let places = n * m;
+    let pairs = head.pairs as usize;
+    forget(stamps, places);
+    stamp_pairs(operators, rides, pairs, n, m, start, stamps);
+    levels::fill_index(head, operators, rides, index);
+    pairs::clear_tail(operators, pairs, places);
+    pairs::clear_tail(rides, pairs, places);
+    0
+}
 
 // 1 where a level is at least beta.
 fn mark(level: u16, beta: u16) -> u16

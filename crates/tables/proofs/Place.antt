@@ -42,16 +42,16 @@ module _ (rows columns : List ℕ) (k i j : ℕ) where
       (λ t. let w = some-witness (pair-at rows columns i j) (k + 1) t in elim (decLt (w .0) k) [ yes l ↦ some-holds (pair-at rows columns i j) k (w .0) l (w .2) | no l ↦ absurd (let e : w .0 ≡ k = omega (arith, w .1) in let p = subst (λ (z : ℕ). T (pair-at rows columns i j z)) e (w .2) in n (eqb→eq (getD rows k 0) i (and-left (eqb (getD rows k 0) i) (eqb (getD columns k 0) j) p)) (eqb→eq (getD columns k 0) j (and-right (eqb (getD rows k 0) i) (eqb (getD columns k 0) j) p))) ])
       (λ t. let w = some-witness (pair-at rows columns i j) k t in some-holds (pair-at rows columns i j) (k + 1) (w .0) (omega (arith, w .1)) (w .2))
 
--- a table of the first k pairs, with the next one stored, is the table of the first k + 1
-module _ (rows columns : List ℕ) (height width k : ℕ) (table : List ℕ) (size : height * width ≤ length table) (r : getD rows k 0 < height) (c : getD columns k 0 < width) (upto : (i j : ℕ) → i < height → j < width → getD table (i * width + j) 0 ≡ bit (listed k rows columns i j)) where
-  pub table-more : (i j : ℕ) → i < height → j < width → getD (set table (getD rows k 0 * width + getD columns k 0) 1) (i * width + j) 0 ≡ bit (listed (k + 1) rows columns i j)
+-- a table of the first k pairs, with one value for listed pairs and one for the others: with the next pair's value stored it is the table of the first k + 1
+module _ (val : Bool → ℕ) (rows columns : List ℕ) (height width k : ℕ) (table : List ℕ) (size : height * width ≤ length table) (r : getD rows k 0 < height) (c : getD columns k 0 < width) (upto : (i j : ℕ) → i < height → j < width → getD table (i * width + j) 0 ≡ val (listed k rows columns i j)) where
+  pub table-more : (i j : ℕ) → i < height → j < width → getD (set table (getD rows k 0 * width + getD columns k 0) (val true)) (i * width + j) 0 ≡ val (listed (k + 1) rows columns i j)
   table-more i j h l =
       elim (ℕ-discrete (i * width + j) (getD rows k 0 * width + getD columns k 0)) [
         | yes e ↦
-            rw (e, getD-set-same table (getD rows k 0 * width + getD columns k 0) 1 0 (place-lt height width (getD rows k 0) (getD columns k 0) r c (length table) size)) (sym (ap bit (listed-here rows columns k i j (sym (place-row width i j (getD rows k 0) (getD columns k 0) l c e)) (sym (place-column width i j (getD rows k 0) (getD columns k 0) l c e)))))
+            rw (e, getD-set-same table (getD rows k 0 * width + getD columns k 0) (val true) 0 (place-lt height width (getD rows k 0) (getD columns k 0) r c (length table) size)) (sym (ap val (listed-here rows columns k i j (sym (place-row width i j (getD rows k 0) (getD columns k 0) l c e)) (sym (place-column width i j (getD rows k 0) (getD columns k 0) l c e)))))
         | no n ↦
-            getD-set-other table (getD rows k 0 * width + getD columns k 0) (i * width + j) 1 0 n ∙ upto i j h l ∙
-            sym (ap bit (listed-before rows columns k i j (λ e f. n (sym (ap₂ (λ (a b : ℕ). a * width + b) e f)))))
+            getD-set-other table (getD rows k 0 * width + getD columns k 0) (i * width + j) (val true) 0 n ∙ upto i j h l ∙
+            sym (ap val (listed-before rows columns k i j (λ e f. n (sym (ap₂ (λ (a b : ℕ). a * width + b) e f)))))
       ]
 
 -- with no pairs nothing is listed

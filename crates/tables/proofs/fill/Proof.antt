@@ -88,7 +88,7 @@ loop-again c =
     let s = c .before .before .before .before in
     let a = s .args in
     let r = s .pre .0 .3 (l .k) (omega arith) in
-    (omega arith, simp length-set (omega arith), table-more (a .rows .now) (a .columns .now) (a .height) (a .width) (l .k) (l .table) (omega arith) (r .0) (r .1) (l .inv .2))
+    (omega arith, simp length-set (omega arith), table-more bit (a .rows .now) (a .columns .now) (a .height) (a .width) (l .k) (l .table) (omega arith) (r .0) (r .1) (l .inv .2))
 
 -- src/lib.rt:58:1
 same-length : tie.Need-same-length Inv-loop μ-loop
