@@ -92,13 +92,13 @@ module _ (h : Head) (short : Bool) (operators rides : List ℕ) where
 -- ---- numbers behind others
 
 -- every number of a list is at least 1
-abbrev Positive : List (ℕ × Bool) → Type 0
+abbrev pub Positive : List (ℕ × Bool) → Type 0
 Positive [] = Unit
 Positive (c ∷ cs) = (1 ≤ c .0) × Positive cs
 
 -- where one of the first numbers applies, the others don't count; where none does, they do
 module _ (ds : List (ℕ × Bool)) where
-  lowest-first : (cs : List (ℕ × Bool)) → Positive cs → lowest-number cs ≢ 0 → lowest-number (cs ++ ds) ≡ lowest-number cs
+  pub lowest-first : (cs : List (ℕ × Bool)) → Positive cs → lowest-number cs ≢ 0 → lowest-number (cs ++ ds) ≡ lowest-number cs
   unfolding lowest-number
   lowest-first [] p n = absurd (n refl)
   lowest-first (c ∷ cs) p n =
@@ -106,7 +106,7 @@ module _ (ds : List (ℕ × Bool)) where
       (λ t. rw (test-true (c .1) t, lowest-number))
       (λ f. rw (test-false (c .1) f, lowest-number) (lowest-first cs (p .1) (λ e. n (rw (test-false (c .1) f, lowest-number) e))))
 
-  lowest-rest : (cs : List (ℕ × Bool)) → Positive cs → lowest-number cs ≡ 0 → lowest-number (cs ++ ds) ≡ lowest-number ds
+  pub lowest-rest : (cs : List (ℕ × Bool)) → Positive cs → lowest-number cs ≡ 0 → lowest-number (cs ++ ds) ≡ lowest-number ds
   unfolding lowest-number
   lowest-rest [] p e = refl
   lowest-rest (c ∷ cs) p e =

@@ -1,11 +1,14 @@
 // Document 01's numbers: for each call the lowest that applies, 0 if none does.
 ghost use mathlib.Core.Path.{_≡_};
 ghost use mathlib.Core.Bool.{false, _||_};
-ghost use Prim.Native.Nat.{ℕ, _≤_};
+ghost use mathlib.Core.List.{List, [], _∷_, _++_};
+ghost use Prim.Native.Nat.{ℕ, _≤_, _<_};
 ghost use lib.ListN.{length};
 ghost use Rattle.model.specs.Layout.{lent, pair-places, mark-places};
-ghost use Rattle.model.specs.Refusal.{refused-3, refused-12, board-short, lowest-number, table-cases, build-refusal, query-refusal, peel-refusal};
+ghost use Rattle.model.specs.Refusal.{refused-3, refused-6, refused-7, refused-8, refused-9, refused-10, refused-12, board-short, lowest-number, table-cases, build-refusal, query-refusal, message-refusal, list-refusal, peel-refusal};
+ghost use Rattle.tables.specs.Table.{AcceptedPairs};
 use model::Head;
+use model::Message;
 
 // Whether a pair array or the stamps are shorter than operators × rides, or the index than its rows.
 fn short_board(head: Head, operators: &[u16], rides: &[u16], stamps: &[u32], index: &[u16]) -> bool
@@ -156,4 +159,138 @@ pub fn peel_number(
         return 12;
     }
     0
+}
+
+// Whether a listed pair has stamp 0.
+fn unstamped(head: Head, operators: &[u16], rides: &[u16], stamps: &[u32]) -> bool
+    requires { ⌜ AcceptedPairs head (now operators) (now rides) × (pair-places head ≤ length (now stamps)) ⌝ }
+    ensures { λ r. ⌜ ((index : List ℕ) → r ≡ refused-6 (lent head (now (operators .entry)) (now (rides .entry)) (now (stamps .entry)) index)) ⌝ }
+{
+    let m = head.rides;
+    let pairs = head.pairs as usize;
+    let mut i = 0;
+    while i < pairs {
+        let at = operators[i] * m + rides[i];
+        if stamps[at as usize] == 0 {
+            return true;
+        }
+        i += 1;
+    }
+    false
+}
+
+// 1 to 6 of a board; short tells whether a lent part is too short.
+fn stamped_number(head: Head, short: bool, operators: &[u16], rides: &[u16], stamps: &[u32]) -> u16
+    requires { ⌜ (short ≡ false → (pair-places head ≤ length (now operators)) × (pair-places head ≤ length (now rides)) × (pair-places head ≤ length (now stamps))) ⌝ }
+    ensures { λ r. ⌜ ((index : List ℕ) → r ≡ lowest-number (table-cases head short (now (operators .entry)) (now (rides .entry)) ++ (6, refused-6 (lent head (now (operators .entry)) (now (rides .entry)) (now (stamps .entry)) index)) ∷ [])) ⌝ }
+{
+    let number = table_number(head, short, operators, rides);
+    if number != 0 {
+        return number;
+    }
+    if unstamped(head, operators, rides, stamps) {
+        return 6;
+    }
+    0
+}
+
+// 7 to 9 of a message: 0 if it is valid.
+fn valid_number(head: Head, message: Message) -> u16
+    ensures { λ r. ⌜ r ≡ lowest-number ((7, refused-7 message) ∷ (8, refused-8 head message) ∷ (9, refused-9 (message .stamp)) ∷ []) ⌝ }
+{
+    if message.kind == 0 {
+        return 7;
+    }
+    if 2 < message.kind {
+        return 7;
+    }
+    if head.operators <= message.operator {
+        return 8;
+    }
+    if head.rides <= message.ride {
+        return 8;
+    }
+    if message.stamp == 0 {
+        return 9;
+    }
+    0
+}
+
+// Whether a message in range is not later than its pair's last: at equal stamps only a withdrawal of a listed pair is.
+fn not_later(head: Head, message: Message, operators: &[u16], rides: &[u16], stamps: &[u32]) -> bool
+    requires { ⌜ AcceptedPairs head (now operators) (now rides) × (pair-places head ≤ length (now stamps)) × (message .operator < head .operators) × (message .ride < head .rides) ⌝ }
+    ensures { λ r. ⌜ ((index : List ℕ) → r ≡ refused-10 (lent head (now (operators .entry)) (now (rides .entry)) (now (stamps .entry)) index) message) ⌝ }
+{
+    let at = message.operator * head.rides + message.ride;
+    let last = stamps[at as usize];
+    if last < message.stamp {
+        return false;
+    }
+    if message.stamp < last {
+        return true;
+    }
+    if message.kind != 2 {
+        return true;
+    }
+    !pairs::is_listed(head, message.operator, message.ride, operators, rides)
+}
+
+// 1 to 10.
+pub fn message_number(
+    head: Head,
+    message: Message,
+    operators: &[u16],
+    rides: &[u16],
+    stamps: &[u32],
+    index: &[u16],
+) -> u16
+    ensures { λ r. ⌜ r ≡ message-refusal (lent head (now (operators .entry)) (now (rides .entry)) (now (stamps .entry)) (now (index .entry))) message ⌝ }
+{
+    let short = short_board(head, operators, rides, stamps, index);
+    let number = stamped_number(head, short, operators, rides, stamps);
+    if number != 0 {
+        return number;
+    }
+    let number_of_message = valid_number(head, message);
+    if number_of_message != 0 {
+        return number_of_message;
+    }
+    if not_later(head, message, operators, rides, stamps) {
+        return 10;
+    }
+    0
+}
+
+// Whether a part of a board is too short, or the answer list is shorter than the message list.
+fn short_list(
+    head: Head,
+    messages: usize,
+    operators: &[u16],
+    rides: &[u16],
+    stamps: &[u32],
+    index: &[u16],
+    answers: &[u16],
+) -> bool
+    ensures { λ r. ⌜ r ≡ (board-short (lent head (now (operators .entry)) (now (rides .entry)) (now (stamps .entry)) (now (index .entry))) || refused-3 messages (now (answers .entry))) ⌝ }
+{
+    if short_board(head, operators, rides, stamps, index) {
+        return true;
+    }
+    answers.len() < messages
+}
+
+// 1 to 6 of a message list.
+pub fn list_number(
+    head: Head,
+    messages: usize,
+    operators: &[u16],
+    rides: &[u16],
+    stamps: &[u32],
+    index: &[u16],
+    answers: &[u16],
+) -> u16
+    ensures { λ r. ⌜ r ≡ list-refusal (lent head (now (operators .entry)) (now (rides .entry)) (now (stamps .entry)) (now (index .entry))) messages (now (answers .entry)) ⌝ }
+{
+    let short = short_list(head, messages, operators, rides, stamps, index, answers);
+    stamped_number(head, short, operators, rides, stamps)
 }
