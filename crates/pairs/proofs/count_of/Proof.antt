@@ -16,7 +16,7 @@ returns-2 : tie.Need-returns-2
 returns-2 c = omega (arith, ap₂ (count-after (c .before .before .args .pairs)) (c .if2 .left) (c .before .if1 .taken))
 
 sub-result : tie.Need-sub-result
-sub-result c = c .before .before .pre .1 (c .if3 .taken)
+sub-result c = omega (arith, c .before .before .pre .1 (c .if3 .taken))
 
 returns-3 : tie.Need-returns-3
 returns-3 c = omega (arith, ap₂ (count-after (c .before .before .args .pairs)) (c .if3 .taken) (c .before .if1 .left))
