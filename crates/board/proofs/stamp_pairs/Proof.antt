@@ -27,11 +27,11 @@ abbrev μ-loop : tie.MeasureT-loop
 -- src/lib.rt:44:5
 loop-holds : tie.Need-loop-holds Inv-loop μ-loop
 loop-holds c = (
-      omega arith,
-      refl,
-      λ i j h l. c .pre .1 (i * c .args .m + j) (place-lt (c .args .n) (c .args .m) i j h l (c .args .n * c .args .m) (omega arith)) ∙ sym (ap (stamp-of (c .args .start)) (listed-none (c .args .operators .now) (c .args .rides .now) i j)),
-      refl,
-    )
+  omega arith,
+  refl,
+  λ i j h l. c .pre .1 (i * c .args .m + j) (place-lt (c .args .n) (c .args .m) i j h l (c .args .n * c .args .m) (omega arith)) ∙ sym (ap (stamp-of (c .args .start)) (listed-none (c .args .operators .now) (c .args .rides .now) i j)),
+  refl,
+)
 
 -- src/lib.rt:45:17
 mul-u : tie.Need-mul-u Inv-loop μ-loop
@@ -59,7 +59,7 @@ cast-v c = omega (arith, c .shared-slice-known2 .given (c .before .before .befor
 
 -- src/lib.rt:47:16
 mul-stamps : tie.Need-mul-stamps Inv-loop μ-loop
-mul-stamps c =     let s = c .before .before .before .before in
+mul-stamps c = let s = c .before .before .before .before in
     let a = s .args in
     let l = c .before .before .before .loop in
     let r = s .pre .0 .3 (l .k) (omega arith) in
@@ -67,7 +67,7 @@ mul-stamps c =     let s = c .before .before .before .before in
 
 -- src/lib.rt:47:16
 add-stamps : tie.Need-add-stamps Inv-loop μ-loop
-add-stamps c =     let s = c .before .before .before .before in
+add-stamps c = let s = c .before .before .before .before in
     let a = s .args in
     let l = c .before .before .before .loop in
     let r = s .pre .0 .3 (l .k) (omega arith) in
@@ -75,7 +75,7 @@ add-stamps c =     let s = c .before .before .before .before in
 
 -- src/lib.rt:47:9
 mul-stamps-2 : tie.Need-mul-stamps-2 Inv-loop μ-loop
-mul-stamps-2 c =     let s = c .before .before .before .before in
+mul-stamps-2 c = let s = c .before .before .before .before in
     let a = s .args in
     let l = c .before .before .before .loop in
     let r = s .pre .0 .3 (l .k) (omega arith) in
@@ -83,7 +83,7 @@ mul-stamps-2 c =     let s = c .before .before .before .before in
 
 -- src/lib.rt:47:9
 slice-write-stamps : tie.Need-slice-write-stamps Inv-loop μ-loop
-slice-write-stamps c =     let s = c .before .before .before .before in
+slice-write-stamps c = let s = c .before .before .before .before in
     let a = s .args in
     let l = c .before .before .before .loop in
     let r = s .pre .0 .3 (l .k) (omega arith) in
@@ -99,11 +99,10 @@ loop-less c = search needs
 
 -- src/lib.rt:44:5
 loop-again : tie.Need-loop-again Inv-loop μ-loop
-loop-again c =     let s = c .before .before .before .before in
+loop-again c = let s = c .before .before .before .before in
     let a = s .args in
     let l = c .before .before .before .loop in
-    let r = s .pre .0 .3 (l .k) (omega arith) in
-    (
+    let r = s .pre .0 .3 (l .k) (omega arith) in (
       omega arith,
       simp length-set (omega arith),
       table-more (stamp-of (a .start)) (a .operators .now) (a .rides .now) (a .n) (a .m) (l .k) (l .stamps) (omega arith) (r .0) (r .1) (l .inv .2),
@@ -116,7 +115,7 @@ same-length c = search needs
 
 -- src/lib.rt:30:1
 returns : tie.Need-returns Inv-loop μ-loop
-returns c =     let a = c .before .before .args in
+returns c = let a = c .before .before .args in
     let l = c .before .loop in
     let e : l .k ≡ a .pairs = omega arith in
     record { stamps = λ u v h k. l .inv .2 u v h k ∙ ap (λ (z : ℕ). stamp-of (a .start) (listed z (a .operators .now) (a .rides .now) u v)) e; tail = l .inv .3 }
