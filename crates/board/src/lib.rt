@@ -10,6 +10,9 @@ ghost use Rattle.model.specs.Calls.{board-build, board-query, peeled, board-pee
 ghost use Rattle.tables.specs.Table.{InRange, AcceptedPairs};
 ghost use Rattle.peeling.specs.Steps.{Gives};
 ghost use Rattle.board.specs.Words.{Marked, RowMarked, Stamped, stamp-of, queried, peel-left, build-left};
+
+pub mod message; // message.rt: message and message list
+
 use model::Counts;
 use model::Head;
 use model::Peeled;
