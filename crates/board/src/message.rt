@@ -1,8 +1,11 @@
 // Document 01, Message and Message list.
 ghost use mathlib.Core.Path.{_≡_};
+ghost use Prim.Native.Nat.{_<_};
+ghost use lib.ListN.{length};
 ghost use Rattle.model.specs.Layout.{lent};
-ghost use Rattle.model.specs.Message.{board-message};
-ghost use Rattle.board.specs.Message.{answered, delivered};
+ghost use Rattle.model.specs.Refusal.{list-refusal};
+ghost use Rattle.model.specs.Message.{board-message, board-messages};
+ghost use Rattle.board.specs.Message.{with-pairs, answered, delivered, listed-out, one-delivered, turns-of};
 use model::Answer;
 use model::Head;
 use model::Message;
@@ -49,4 +52,78 @@ pub extern "C" fn board_message(
         code: d.code,
         differ: d.differ,
     }
+}
+
+// A list's number, and how many of its messages are delivered.
+pub struct Turns {
+    pub code: u16,
+    pub turns: usize,
+}
+
+// The number of a list of so many messages; all of them are delivered where it is 0, and else none.
+fn list_turns(
+    head: Head,
+    messages: usize,
+    operators: &[u16],
+    rides: &[u16],
+    stamps: &[u32],
+    index: &[u16],
+    answers: &[u16],
+) -> Turns
+    ensures { λ r. ⌜ r ≡ turns-of (list-refusal (lent head (now (operators .entry)) (now (rides .entry)) (now (stamps .entry)) (now (index .entry))) messages (now (answers .entry))) messages ⌝ }
+{
+    Turns {
+        code: head.operators,
+        turns: messages,
+    }
+}
+
+// One message of a list: its answer number is stored at its place, and the number of pairs is returned.
+fn deliver_at(
+    head: Head,
+    message: Message,
+    at: usize,
+    operators: &mut [u16],
+    rides: &mut [u16],
+    stamps: &mut [u32],
+    index: &mut [u16],
+    answers: &mut [u16],
+) -> u16
+    requires { ⌜ at < length (now answers) ⌝ }
+    ensures { λ r. ⌜ listed-out 0 (with-pairs head r) (now (operators .exit)) (now (rides .exit)) (now (stamps .exit)) (now (index .exit)) (now (answers .exit)) ≡ one-delivered (lent head (now (operators .entry)) (now (rides .entry)) (now (stamps .entry)) (now (index .entry))) message at (now (answers .entry)) ⌝ }
+{
+    let d = deliver(head, message, operators, rides, stamps, index);
+    answers[at] = d.code;
+    d.pairs
+}
+
+// Message list: the messages are delivered in order, unless 1 to 6 refuse all of them.
+#[no_mangle]
+pub extern "C" fn board_messages(
+    head: &mut Head,
+    operators: &mut [u16],
+    rides: &mut [u16],
+    stamps: &mut [u32],
+    index: &mut [u16],
+    messages: &[Message],
+    answers: &mut [u16],
+) -> u16
+    ensures { λ r. ⌜ listed-out r (now (head .exit)) (now (operators .exit)) (now (rides .exit)) (now (stamps .exit)) (now (index .exit)) (now (answers .exit)) ≡ board-messages (lent (now (head .entry)) (now (operators .entry)) (now (rides .entry)) (now (stamps .entry)) (now (index .entry))) (now (messages .entry)) (now (answers .entry)) ⌝ }
+{
+    let t = list_turns(
+        *head,
+        messages.len(),
+        operators,
+        rides,
+        stamps,
+        index,
+        answers,
+    );
+    let mut i = 0;
+    while i < t.turns {
+        let message = messages[i];
+        head.pairs = deliver_at(*head, message, i, operators, rides, stamps, index, answers);
+        i += 1;
+    }
+    t.code
 }

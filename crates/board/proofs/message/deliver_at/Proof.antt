@@ -1,0 +1,61 @@
+use mathlib.Core.Path.{ap}
+use lib.ListN.{set}
+use Rattle.model.specs.Message.{MessageOutcome}
+use borrow.Author.Needs.{needs}
+use Rattle.board.proofs.message.deliver_at.Statement.{statement}
+use Rattle.board.proofs.message.deliver_at.Tie as tie
+use Rattle.board.proofs.message.deliver_at.Reads as reads
+use Rattle.board.proofs.message.deliver_at.Lts as lts
+use Rattle.board.proofs.message.deliver.Reads as deliver-reads
+
+-- src/message.rt:92:9
+deliver-requires : tie.Need-deliver-requires
+deliver-requires c κs = search needs
+
+-- src/message.rt:93:5
+mul-answers : tie.Need-mul-answers
+mul-answers c = search needs
+
+-- src/message.rt:93:5
+slice-write-answers : tie.Need-slice-write-answers
+slice-write-answers c = search needs
+
+-- src/message.rt:79:1
+same-length : tie.Need-same-length
+same-length c = search needs
+
+-- src/message.rt:79:1
+same-length-2 : tie.Need-same-length-2
+same-length-2 c = search needs
+
+-- src/message.rt:79:1
+same-length-3 : tie.Need-same-length-3
+same-length-3 c = search needs
+
+-- src/message.rt:79:1
+same-length-4 : tie.Need-same-length-4
+same-length-4 c = search needs
+
+-- src/message.rt:79:1
+same-length-5 : tie.Need-same-length-5
+same-length-5 c = search needs
+
+-- src/message.rt:79:1
+returns : tie.Need-returns
+returns c =
+    let a = c .before .before .before .before .before .before .before .before .before .before .before .before .before .before .before .before .before .before .args in
+    ap (λ (o : MessageOutcome). record { code = 0; board = o .board; answers = set (a .answers .now) (a .at) (o .answer .code) }) (c .before .before .before .before .before .before .before .before .deliver .ensures)
+
+pub deliver-at-spec : {M : Type 1} → statement M
+deliver-at-spec =
+    tie.close
+    (tie.spec
+    deliver-requires
+    mul-answers
+    slice-write-answers
+    same-length
+    same-length-2
+    same-length-3
+    same-length-4
+    same-length-5
+    returns)
