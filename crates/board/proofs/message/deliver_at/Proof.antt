@@ -4,9 +4,6 @@ use Rattle.model.specs.Message.{MessageOutcome}
 use borrow.Author.Needs.{needs}
 use Rattle.board.proofs.message.deliver_at.Statement.{statement}
 use Rattle.board.proofs.message.deliver_at.Tie as tie
-use Rattle.board.proofs.message.deliver_at.Reads as reads
-use Rattle.board.proofs.message.deliver_at.Lts as lts
-use Rattle.board.proofs.message.deliver.Reads as deliver-reads
 
 -- src/message.rt:92:9
 deliver-requires : tie.Need-deliver-requires
