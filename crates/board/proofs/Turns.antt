@@ -28,6 +28,15 @@ in-order-nil : (b : Board) (answers : List ℕ) → in-order [] 0 b answers ≡ 
 unfolding in-order
 in-order-nil b answers = refl
 
+-- a list's turns, where its number is 0 and where it is not
+pub all-turns : (code messages : ℕ) → code ≡ 0 → record { code = code; turns = messages } ≡ turns-of code messages
+all-turns zero messages e = refl
+all-turns (suc k) messages e = absurd (let z : ⊥ = omega (arith, e) in z)
+
+pub no-turns : (code messages : ℕ) → (code ≡ 0 → ⊥) → record { code = code; turns = 0 } ≡ turns-of code messages
+no-turns zero messages n = absurd (n refl)
+no-turns (suc k) messages n = refl
+
 -- as many messages are delivered as there are, at the most, and as there are places for answers
 pub turns-within : (b : Board) (messages : ℕ) (answers : List ℕ) (t : Turns) → t ≡ turns-of (list-refusal b messages answers) messages → (t .turns ≤ messages) × (t .turns ≤ length answers)
 turns-within b messages answers t e = rw e (go (list-refusal b messages answers) refl)

@@ -60,6 +60,20 @@ pub struct Turns {
     pub turns: usize,
 }
 
+fn list_number(
+    head: Head,
+    messages: usize,
+    operators: &[u16],
+    rides: &[u16],
+    stamps: &[u32],
+    index: &[u16],
+    answers: &[u16],
+) -> u16
+    ensures { λ r. ⌜ r ≡ list-refusal (lent head (now (operators .entry)) (now (rides .entry)) (now (stamps .entry)) (now (index .entry))) messages (now (answers .entry)) ⌝ }
+{
+    head.operators
+}
+
 // The number of a list of so many messages; all of them are delivered where it is 0, and else none.
 fn list_turns(
     head: Head,
@@ -72,10 +86,14 @@ fn list_turns(
 ) -> Turns
     ensures { λ r. ⌜ r ≡ turns-of (list-refusal (lent head (now (operators .entry)) (now (rides .entry)) (now (stamps .entry)) (now (index .entry))) messages (now (answers .entry))) messages ⌝ }
 {
-    Turns {
-        code: head.operators,
-        turns: messages,
+    let code = list_number(head, messages, operators, rides, stamps, index, answers);
+    if code == 0 {
+        return Turns {
+            code,
+            turns: messages,
+        };
     }
+    Turns { code, turns: 0 }
 }
 
 // One message of a list: its answer number is stored at its place, and the number of pairs is returned.
