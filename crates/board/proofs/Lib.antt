@@ -3,3 +3,4 @@ pub mod Peels
 pub mod Builds
 pub mod Lend
 pub mod Turns
+pub mod Takes

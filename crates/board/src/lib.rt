@@ -4,17 +4,12 @@ ghost use Prim.Native.Nat.{ℕ, _+_, _*_, _<_, _≤_};
 ghost use lib.Dec.{leb};
 ghost use lib.ListN.{length, getD, drop};
 ghost use Rattle.model.specs.Count.{bit};
-<<<<<<< HEAD
 ghost use Rattle.model.specs.Graph.{limits};
 ghost use Rattle.model.specs.Layout.{lent, listed, graph, mark-places};
 ghost use Rattle.model.specs.Calls.{board-build, board-query, peeled, board-peel};
 ghost use Rattle.tables.specs.Table.{InRange, AcceptedPairs};
 ghost use Rattle.peeling.specs.Steps.{Gives};
 ghost use Rattle.board.specs.Words.{Marked, RowMarked, Stamped, stamp-of, queried, peel-left, build-left};
-=======
-ghost use Rattle.model.specs.Calls.{board-query};
-ghost use Rattle.board.specs.Words.{Marked, RowMarked, queried};
->>>>>>> bf1071c (Message list: turns of a list, must-fail edits)
 
 pub mod message; // message.rt: message and message list
 

@@ -3,7 +3,7 @@ ghost use mathlib.Core.Path.{_≡_};
 ghost use Prim.Native.Nat.{_<_};
 ghost use lib.ListN.{length};
 ghost use Rattle.model.specs.Layout.{lent};
-ghost use Rattle.model.specs.Refusal.{list-refusal};
+ghost use Rattle.model.specs.Refusal.{message-refusal, list-refusal};
 ghost use Rattle.model.specs.Message.{board-message, board-messages};
 ghost use Rattle.board.specs.Message.{with-pairs, answered, delivered, listed-out, one-delivered, turns-of};
 use model::Answer;
@@ -17,6 +17,42 @@ pub struct Delivered {
     pub pairs: u16,
 }
 
+// Takes a message that is not refused: the pair is listed or not, its stamp is set, and the index is filled anew.
+fn take_message(
+    head: Head,
+    message: Message,
+    operators: &mut [u16],
+    rides: &mut [u16],
+    stamps: &mut [u32],
+    index: &mut [u16],
+) -> Delivered
+    requires { ⌜ message-refusal (lent head (now operators) (now rides) (now stamps) (now index)) message ≡ 0 ⌝ }
+    ensures { λ r. ⌜ delivered head r (now (operators .exit)) (now (rides .exit)) (now (stamps .exit)) (now (index .exit)) ≡ board-message (lent head (now (operators .entry)) (now (rides .entry)) (now (stamps .entry)) (now (index .entry))) message ⌝ }
+{
+    let pairs = pairs::change(
+        head,
+        message.operator,
+        message.ride,
+        message.kind == 1,
+        operators,
+        rides,
+    );
+    let at = message.operator as usize * head.rides as usize + message.ride as usize;
+    stamps[at] = message.stamp;
+    let next = Head {
+        operators: head.operators,
+        rides: head.rides,
+        pairs,
+    };
+    let differ = levels::fill_index(next, operators, rides, index);
+    Delivered {
+        code: 0,
+        differ,
+        pairs,
+    }
+}
+
+// Message, with the head by value: what it answers, and the number of pairs after it.
 pub fn deliver(
     head: Head,
     message: Message,
@@ -27,11 +63,15 @@ pub fn deliver(
 ) -> Delivered
     ensures { λ r. ⌜ delivered head r (now (operators .exit)) (now (rides .exit)) (now (stamps .exit)) (now (index .exit)) ≡ board-message (lent head (now (operators .entry)) (now (rides .entry)) (now (stamps .entry)) (now (index .entry))) message ⌝ }
 {
-    Delivered {
-        code: head.operators,
-        differ: message.kind,
-        pairs: 0,
+    let number = refusals::message_number(head, message, operators, rides, stamps, index);
+    if number != 0 {
+        return Delivered {
+            code: number,
+            differ: 0,
+            pairs: head.pairs,
+        };
     }
+    take_message(head, message, operators, rides, stamps, index)
 }
 
 // Message.
@@ -60,20 +100,6 @@ pub struct Turns {
     pub turns: usize,
 }
 
-fn list_number(
-    head: Head,
-    messages: usize,
-    operators: &[u16],
-    rides: &[u16],
-    stamps: &[u32],
-    index: &[u16],
-    answers: &[u16],
-) -> u16
-    ensures { λ r. ⌜ r ≡ list-refusal (lent head (now (operators .entry)) (now (rides .entry)) (now (stamps .entry)) (now (index .entry))) messages (now (answers .entry)) ⌝ }
-{
-    head.operators
-}
-
 // The number of a list of so many messages; all of them are delivered where it is 0, and else none.
 fn list_turns(
     head: Head,
@@ -86,7 +112,7 @@ fn list_turns(
 ) -> Turns
     ensures { λ r. ⌜ r ≡ turns-of (list-refusal (lent head (now (operators .entry)) (now (rides .entry)) (now (stamps .entry)) (now (index .entry))) messages (now (answers .entry))) messages ⌝ }
 {
-    let code = list_number(head, messages, operators, rides, stamps, index, answers);
+    let code = refusals::list_number(head, messages, operators, rides, stamps, index, answers);
     if code == 0 {
         return Turns {
             code,
