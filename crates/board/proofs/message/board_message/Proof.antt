@@ -54,6 +54,7 @@ use Rattle.model.proofs.Message as N
 use Rattle.model.proofs.Message.Laws as N′
 use Rattle.model.proofs.Answer as Q
 use Rattle.model.proofs.Answer.Laws as Q′
+use Rattle.board.proofs.Rows.{Hd, Mg, head-fits, head-made, pairs-made}
 use Rattle.board.proofs.message.Delivered as D
 use Rattle.board.proofs.message.Delivered.Laws as D′
 use Rattle.board.proofs.message.deliver as deliver
@@ -64,13 +65,6 @@ use Rattle.board.proofs.message.board_message.Key.{name as #board-messa
 use Rattle.board.proofs.message.board_message as this
 use Rattle.board.proofs.message.board_message.Statement as stated
 use Rattle.board.proofs.message.board_message.Code as code
-
--- the rows of the four structs
-abbrev Hd : RattleType
-Hd = T.the-row
-
-abbrev Mg : RattleType
-Mg = N.the-row
 
 abbrev An : RattleType
 An = Q.the-row
@@ -90,22 +84,12 @@ stayed = (
   ),
 )
 
--- what whoever holds one of the structs knows of its fields
-abbrev HeadFits : Head → Type 0
-HeadFits h = (h .operators < 2 ^ 16) × ((h .rides < 2 ^ 16) × (h .pairs < 2 ^ 16))
-
-head-fits : (h : Head) (vs : List Val) → Is Hd h vs → HeadFits h
-head-fits h vs g = (LL.owed T.the-type T′.the-laws h vs g .0 .1, (LL.owed T.the-type T′.the-laws h vs g .1 .0 .1, LL.owed T.the-type T′.the-laws h vs g .1 .1 .0 .1))
-
+-- what whoever holds what `deliver` returned knows of it
 abbrev DeliveredFits : Delivered → Type 0
 DeliveredFits r = (r .code < 2 ^ 16) × ((r .differ < 2 ^ 16) × (r .pairs < 2 ^ 16))
 
 delivered-fits : (r : Delivered) (vs : List Val) → Is Dl r vs → DeliveredFits r
 delivered-fits r vs g = (LL.owed D.the-type D′.the-laws r vs g .0 .1, (LL.owed D.the-type D′.the-laws r vs g .1 .0 .1, LL.owed D.the-type D′.the-laws r vs g .1 .1 .0 .1))
-
--- a head at its own machine value
-made-h : (h : Head) (vs : List Val) → Is Hd h vs → Is Hd h (T′.lowered h ∷ [])
-made-h h vs g = LL.owes T.the-type T′.the-laws h (LL.owed T.the-type T′.the-laws h vs g)
 
 -- the answer of what `deliver` returned
 abbrev answer-of : Delivered → Answer
@@ -151,10 +135,6 @@ module _ {M : Type 1} (𝓤 : URA M) (H : Heap 𝓤) (A : Atoms 𝓤) (W : Given
   Does r zs = delivered h r (zs .1 .1 .0) (zs .1 .1 .1 .0) (zs .1 .1 .1 .1 .0) (zs .1 .1 .1 .1 .1 .0)
       ≡ board-message (lent h (x .1 .0 .now) (x .1 .1 .0 .now) (x .1 .1 .1 .0 .now) (x .1 .1 .1 .1 .0 .now)) m
 
-  -- what closing the head's borrow asks
-  made : (r : Delivered) → HeadFits h → r .pairs < 2 ^ 16 → Is Hd (h′ r) (T′.lowered (h′ r) ∷ [])
-  made r f p = LL.owes T.the-type T′.the-laws (h′ r) ((refl, f .0), ((refl, f .1 .0), ((refl, p), tt)))
-
   goes : Is Hd h (T′.lowered h ∷ [])
       → ent 𝓤 (⋆ 𝓤 H A (raw (alive 𝓤 H A deliver.signature (κs .1) (qs .1)) ∷ ‵ (MutSlice (named 1) (κs .1 .0) u16 .own (x .1 .0) (vals .1 .0)) ∷ ‵ (MutSlice (named 2) (κs .1 .1 .0) u16 .own (x .1 .1 .0) (vals .1 .1 .0))
       ∷ ‵ (MutSlice (named 3) (κs .1 .1 .1 .0) u32 .own (x .1 .1 .1 .0) (vals .1 .1 .1 .0)) ∷ ‵ (MutSlice (named 4) (κs .1 .1 .1 .1 .0) u16 .own (x .1 .1 .1 .1 .0) (vals .1 .1 .1 .1 .0)) ∷ [])) (Deliver 𝓤 H A at-mem run .pre to-deliver)
@@ -195,7 +175,7 @@ module _ {M : Type 1} (𝓤 : URA M) (H : Heap 𝓤) (A : Atoms 𝓤) (W : Given
         opens ! tt Hd {h = h} (x .0 .ptr .0) (x .0 .ptr .1) (λ vs. spelt ! Hd (Is Hd) (shows 𝓤 H A Hd) (LL.vals T.the-type T′.the-laws) (LL.tells T.the-type T′.the-laws) fullShare h vs _ _ $ move ! (1 ∷ []) $
         facts ! Hd (Is Hd) (shows 𝓤 H A Hd) h _ (λ g.
         -- [cell; obor; obs; auth; toks; own-i; own-s; own-d; own-o; _16; †16; _15; †15; _14; †14; _13; †13; _12; †12; _11; †11; _10; †10; _9; †9; _8; †8; _7; †7; _6; †6; _5; †5; _4; †4; _3; †3; _2; †2; _1; †1; _0; †0]
-        assigns ! (of-opd ! (load ! (from ! (hop ! (look ! 39 refl) (stop !))) (look-raw ! 0 refl))) (from ! (stop !)) (init ! 25 refl (LL.lawful T.the-type T′.the-laws 𝓤 H A W .typed h _ (made-h h _ g) .0)) $
+        assigns ! (of-opd ! (load ! (from ! (hop ! (look ! 39 refl) (stop !))) (look-raw ! 0 refl))) (from ! (stop !)) (init ! 25 refl (LL.lawful T.the-type T′.the-laws 𝓤 H A W .typed h _ (head-made h (head-fits h _ g)) .0)) $
         assigns ! (addr ! (from ! (fld ! refl (hop ! (look-in ! 37 (sub ! 0 refl (whole !))) (stop !))))) (from ! (stop !)) (init ! 23 refl (tt, tt)) $
         assigns ! (agg ! (and-then ! (load ! (from ! (stop !)) (look ! 23 refl)) (and-then ! (load ! (from ! (fld ! refl (stop !))) (look-in ! 37 (sub ! 1 refl (whole !)))) (no-more !)))) (from ! (stop !)) (init ! 21 refl (tt, (tt, (record { fits = go .0 }, tt)))) $
         assigns ! (addr ! (from ! (fld ! refl (hop ! (look-in ! 35 (sub ! 0 refl (whole !))) (stop !))))) (from ! (stop !)) (init ! 19 refl (tt, tt)) $
@@ -205,7 +185,7 @@ module _ {M : Type 1} (𝓤 : URA M) (H : Heap 𝓤) (A : Atoms 𝓤) (W : Given
         assigns ! (addr ! (from ! (fld ! refl (hop ! (look-in ! 31 (sub ! 0 refl (whole !))) (stop !))))) (from ! (stop !)) (init ! 11 refl (tt, tt)) $
         assigns ! (agg ! (and-then ! (load ! (from ! (stop !)) (look ! 11 refl)) (and-then ! (load ! (from ! (fld ! refl (stop !))) (look-in ! 31 (sub ! 1 refl (whole !)))) (no-more !)))) (from ! (stop !)) (init ! 9 refl (tt, (tt, (record { fits = gi .0 }, tt)))) $
         -- the slices go to `deliver` for good
-        move ! (4 ∷ 8 ∷ 7 ∷ 6 ∷ 5 ∷ []) $ group ! 5 $ use1 W (raw (Deliver 𝓤 H A at-mem run .pre to-deliver)) (goes (made-h h _ g)) $
+        move ! (4 ∷ 8 ∷ 7 ∷ 6 ∷ 5 ∷ []) $ group ! 5 $ use1 W (raw (Deliver 𝓤 H A at-mem run .pre to-deliver)) (goes (head-made h (head-fits h _ g))) $
         calls-at ! fm (Deliver 𝓤 H A at-mem run) known to-deliver (and-then ! (load ! (from ! (stop !)) (look ! 21 refl)) (and-then ! (load ! (from ! (stop !)) (look ! 25 refl)) (and-then ! (load ! (from ! (stop !)) (look ! 17 refl)) (and-then ! (load ! (from ! (stop !)) (look ! 13 refl)) (and-then ! (load ! (from ! (stop !)) (look ! 9 refl)) (and-then ! (load ! (from ! (stop !)) (look ! 5 refl)) (no-more !))))))) (λ v.
         use1 W (later (some (λ (r : Delivered). (raw (alive 𝓤 H A deliver.signature (κs .1) (qs .1)) ⊛ ‵ (Dl .own r (v ∷ []))) ⊛ raw (ensured 𝓤 H A deliver.ended (deliver.clauses 𝓤 H A at-mem run) (κs .1) args tt r)))) (id⊢ 𝓤 _) $ await ! tt $
         pick ! (λ r. split ! $ split ! $ move ! (2 ∷ []) $ use1 W (some (λ (zs : Lasts deliver.ended (κs .1) args). ‵ (lasts deliver.ended (κs .1) args zs) ⊛ raw (fact 𝓤 (Does r zs)))) (id⊢ 𝓤 _) $ pick ! (λ zs.
@@ -216,7 +196,7 @@ module _ {M : Type 1} (𝓤 : URA M) (H : Heap 𝓤) (A : Atoms 𝓤) (W : Given
         -- the number of pairs is stored, and the head's borrow is closed at the new record
         assigns ! (of-opd ! (load ! (from ! (fld ! refl (stop !))) (look-in ! 27 (sub ! 2 refl (whole !))))) (from ! (hop ! (look ! 39 refl) (fld ! refl (stop !)))) (store-in ! 5 (sub ! 2 refl (whole !)) (tt, record { fits = delivered-fits r _ is .1 .1 })) $
         assigns ! (agg ! (and-then ! (load ! (from ! (fld ! refl (stop !))) (look-in ! 27 (sub ! 0 refl (whole !)))) (and-then ! (load ! (from ! (fld ! refl (stop !))) (look-in ! 27 (sub ! 1 refl (whole !)))) (no-more !)))) (from ! (stop !)) (init ! 41 refl (LL.lawful Q.the-type Q′.the-laws 𝓤 H A W .typed (answer-of r) _ (made-a r (delivered-fits r _ is)) .0)) $
-        owned ! Hd (Is Hd) (LL.makes T.the-type T′.the-plain 𝓤 H A) (h′ r) (T′.lowered (h′ r) ∷ []) (made r (head-fits h _ g) (delivered-fits r _ is .1 .1)) $ move ! (6 ∷ 0 ∷ 7 ∷ 8 ∷ 9 ∷ []) $
+        owned ! Hd (Is Hd) (LL.makes T.the-type T′.the-plain 𝓤 H A) (h′ r) (T′.lowered (h′ r) ∷ []) (pairs-made h (r .pairs) (head-fits h _ g) (delivered-fits r _ is .1 .1)) $ move ! (6 ∷ 0 ∷ 7 ∷ 8 ∷ 9 ∷ []) $
         closes ! tt Hd (h′ r) (T′.lowered (h′ r) ∷ []) (x .0 .ptr .0) (x .0 .ptr .1) $ returns ! (look ! 40 refl) $ forget ! 8 refl $ forget ! 10 refl $ forget ! 12 refl $ forget ! 14 refl $ forget ! 16 refl $
         forget ! 18 refl $ forget ! 20 refl $ forget ! 22 refl $ forget ! 24 refl $ forget ! 26 refl $ forget ! 28 refl $ forget ! 30 refl $ forget ! 32 refl $ forget ! 34 refl $ forget ! 36 refl $ forget ! 38 refl $
         forget ! 40 refl $ move ! (40 ∷ 41 ∷ []) $ free1 ! $ move ! (38 ∷ 39 ∷ []) $ free1 ! $ move ! (36 ∷ 37 ∷ []) $ free1 ! $ move ! (34 ∷ 35 ∷ []) $ free1 ! $ move ! (32 ∷ 33 ∷ []) $ free1 ! $

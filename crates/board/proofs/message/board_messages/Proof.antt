@@ -63,6 +63,7 @@ use Rattle.model.proofs.Message as N
 use Rattle.model.proofs.Message.Laws as N′
 use Rattle.board.proofs.message.Turns as U
 use Rattle.board.proofs.message.Turns.Laws as U′
+use Rattle.board.proofs.Rows.{Hd, Mg, HeadFits, head-fits, head-made, pairs-made}
 use Rattle.board.proofs.Lend.{Mine, lent as lent-as, Lent, lends, back, Shared, shares, shared-back}
 use Rattle.board.proofs.Turns.{nil, turns-within, one-more, all-delivered, list-ended}
 use Rattle.board.proofs.message.list_turns as list-turns
@@ -113,22 +114,10 @@ record Holds (h₀ : Head) (list : List Message) (n : ℕ) (s₀ : State) (i : �
   ahead : in-order (drop i (take n list)) i (board-at h₀ s) (s .answers) ≡ in-order (take n list) 0 (board-at h₀ s₀) (s₀ .answers)
 
 -- ---- the rows, the locals' types, and pieces of the code
-abbrev Hd : RattleType
-Hd = T.the-row
-
-abbrev Mg : RattleType
-Mg = N.the-row
-
 abbrev Tn : RattleType
 Tn = U.the-row
 
--- what whoever holds a head, or what `list_turns` returned, knows of its fields
-abbrev HeadFits : Head → Type 0
-HeadFits h = (h .operators < 2 ^ 16) × ((h .rides < 2 ^ 16) × (h .pairs < 2 ^ 16))
-
-head-fits : (h : Head) (vs : List Val) → Is Hd h vs → HeadFits h
-head-fits h vs g = (LL.owed T.the-type T′.the-laws h vs g .0 .1, (LL.owed T.the-type T′.the-laws h vs g .1 .0 .1, LL.owed T.the-type T′.the-laws h vs g .1 .1 .0 .1))
-
+-- what whoever holds what `list_turns` returned knows of it
 turns-fits : (r : Turns) (vs : List Val) → Is Tn r vs → (r .code < 2 ^ 16) × (r .turns < 2 ^ 64)
 turns-fits r vs g = (LL.owed U.the-type U′.the-laws r vs g .0 .1, LL.owed U.the-type U′.the-laws r vs g .1 .0 .1)
 
@@ -188,10 +177,6 @@ module _ {M : Type 1} (𝓤 : URA M) (H : Heap 𝓤) (A : Atoms 𝓤) (W : Given
   abbrev b₀ : Board
   b₀ = lent h₀ (s₀ .operators) (s₀ .rides) (s₀ .stamps) (s₀ .index)
 
-  -- what closing the head's borrow asks
-  made : (p : ℕ) → HeadFits h₀ → p < 2 ^ 16 → Is Hd (with-pairs h₀ p) (T′.lowered (with-pairs h₀ p) ∷ [])
-  made p f l = LL.owes T.the-type T′.the-laws (with-pairs h₀ p) ((refl, f .0), ((refl, f .1 .0), ((refl, l), tt)))
-
   abbrev vals : Vals this.signature κs
   vals = (ptr-vals (x .0), (slice-vals (x .1 .0), (slice-vals (x .1 .1 .0), (slice-vals (x .1 .1 .1 .0), (slice-vals (x .1 .1 .1 .1 .0), (slice-vals (x .1 .1 .1 .1 .1 .0), (slice-vals (x .1 .1 .1 .1 .1 .1 .0), tt)))))))
 
@@ -230,8 +215,8 @@ module _ {M : Type 1} (𝓤 : URA M) (H : Heap 𝓤) (A : Atoms 𝓤) (W : Given
       ‵ (ShrSlice (named 0) (ν₄ ∷ []) u16 .own (lent-as u16 (κs .1 .1 .1 .1 .1 .1 .0) (qs .1 .1 .1 .1 .1 .1 .0) (x .1 .1 .1 .1 .1 .1 .0) (slice-vals (x .1 .1 .1 .1 .1 .1 .0)) δ₄ (x .1 .1 .1 .1 .1 .1 .0 .now)) (slice-vals (x .1 .1 .1 .1 .1 .1 .0))) ∷ []) ∵
       nothing ! $ move ! (5 ∷ 0 ∷ []) $ join ! $ move ! (4 ∷ 0 ∷ []) $ join ! $ move ! (3 ∷ 0 ∷ []) $ join ! $ move ! (2 ∷ 0 ∷ []) $ join ! $ move ! (1 ∷ 0 ∷ []) $ join ! $ nothing ! $ move ! (6 ∷ 0 ∷ []) $ fjoin ! $
       move ! (5 ∷ 0 ∷ []) $ fjoin ! $ move ! (4 ∷ 0 ∷ []) $ fjoin ! $ move ! (3 ∷ 0 ∷ []) $ fjoin ! $ move ! (2 ∷ 0 ∷ []) $ fjoin ! $
-      owned ! usize (Is usize) (uint-makes 𝓤 H A W w64) (length list) _ (refl, gl .0) $ fjoin ! $ owned ! Hd (Is Hd) (LL.makes T.the-type T′.the-plain 𝓤 H A) h₀ _ (made (h₀ .pairs) hf (hf .1 .1)) $ fjoin ! $
-      move ! (1 ∷ 0 ∷ []) $ join ! $ nothing ! $ move ! (1 ∷ 0 ∷ []) $ done !
+      owned ! usize (Is usize) (uint-makes 𝓤 H A W w64) (length list) _ (refl, gl .0) $ fjoin ! $ owned ! Hd (Is Hd) (LL.makes T.the-type T′.the-plain 𝓤 H A) h₀ _ (head-made h₀ hf) $ fjoin ! $ move ! (1 ∷ 0 ∷ []) $
+      join ! $ nothing ! $ move ! (1 ∷ 0 ∷ []) $ done !
 
   module _ (r : Turns) (counts : Counts r) (gr : Is Tn r (U′.lowered r ∷ [])) (hf : HeadFits h₀) where
     -- the loop's variable: how many messages are delivered, the state, and what holds
@@ -298,7 +283,7 @@ module _ {M : Type 1} (𝓤 : URA M) (H : Heap 𝓤) (A : Atoms 𝓤) (W : Given
           move ! (3 ∷ 0 ∷ []) $ join ! $ move ! (2 ∷ 0 ∷ []) $ join ! $ move ! (1 ∷ 0 ∷ []) $ join ! $ nothing ! $ move ! (6 ∷ 0 ∷ []) $ fjoin ! $ move ! (5 ∷ 0 ∷ []) $ fjoin ! $ move ! (4 ∷ 0 ∷ []) $ fjoin ! $
           move ! (3 ∷ 0 ∷ []) $ fjoin ! $ move ! (2 ∷ 0 ∷ []) $ fjoin ! $ owned ! usize (Is usize) (uint-makes 𝓤 H A W w64) i _ (refl, lt-trans l (turns-fits r _ gr .1)) $ fjoin ! $
           owned ! Mg (Is Mg) (LL.makes N.the-type N′.the-plain 𝓤 H A) (elem i) _ gm $ fjoin ! $
-          owned ! Hd (Is Hd) (LL.makes T.the-type T′.the-plain 𝓤 H A) (with-pairs h₀ (s .pairs)) _ (made (s .pairs) hf (h .pairs-fit)) $ fjoin ! $ move ! (1 ∷ 0 ∷ []) $ done !
+          owned ! Hd (Is Hd) (LL.makes T.the-type T′.the-plain 𝓤 H A) (with-pairs h₀ (s .pairs)) _ (pairs-made h₀ (s .pairs) hf (h .pairs-fit)) $ fjoin ! $ move ! (1 ∷ 0 ∷ []) $ done !
 
       exits : r .turns ≤ i → ent 𝓤 (⋆ 𝓤 H A (‵ (fobs (x .0 .name) (Hd .coded .code (with-pairs h₀ (s .pairs)))) ∷ ‵ (fbor (κs .0) (Borrowed (mem Hd) (x .0 .ptr .0) (x .0 .ptr .1) (x .0 .name))) ∷ ‵ (flft (κs .0) (qs .0)) ∷
           ‵ (Mine u16 (κs .1 .0) (qs .1 .0) (x .1 .0) (slice-vals (x .1 .0)) (s .operators)) ∷ ‵ (Mine u16 (κs .1 .1 .0) (qs .1 .1 .0) (x .1 .1 .0) (slice-vals (x .1 .1 .0)) (s .rides)) ∷
@@ -395,7 +380,7 @@ module _ {M : Type 1} (𝓤 : URA M) (H : Heap 𝓤) (A : Atoms 𝓤) (W : Given
             shuts-slice ! tt Mg q′ list (x .1 .1 .1 .1 .1 .0 .ptr .0) (x .1 .1 .1 .1 .1 .0 .ptr .1) $ move ! (2 ∷ 1 ∷ []) $ fjoin ! $ move ! (2 ∷ 0 ∷ []) $ fjoin ! $
             assigns ! (of-opd ! (load ! (from ! (stop !)) (look ! 37 refl))) (from ! (stop !)) (init ! 21 refl (LL.lawful N.the-type N′.the-laws 𝓤 H A W .typed (elem i) _ gm .0)) $
             -- the head is read, and the slices are reborrowed
-            assigns ! (of-opd ! (load ! (from ! (hop ! (look ! 12 refl) (stop !))) (look-raw ! 2 refl))) (from ! (stop !)) (init ! 39 refl (LL.lawful T.the-type T′.the-laws 𝓤 H A W .typed (with-pairs h₀ (s .pairs)) _ (made (s .pairs) hf (t .1 .1 .pairs-fit)) .0)) $
+            assigns ! (of-opd ! (load ! (from ! (hop ! (look ! 12 refl) (stop !))) (look-raw ! 2 refl))) (from ! (stop !)) (init ! 39 refl (LL.lawful T.the-type T′.the-laws 𝓤 H A W .typed (with-pairs h₀ (s .pairs)) _ (pairs-made h₀ (s .pairs) hf (t .1 .1 .pairs-fit)) .0)) $
             assigns ! (addr ! (from ! (fld ! refl (hop ! (look-in ! 13 (sub ! 0 refl (whole !))) (stop !))))) (from ! (stop !)) (init ! 40 refl (tt, tt)) $
             assigns ! (agg ! (and-then ! (load ! (from ! (stop !)) (look ! 40 refl)) (and-then ! (load ! (from ! (fld ! refl (stop !))) (look-in ! 13 (sub ! 1 refl (whole !)))) (no-more !)))) (from ! (stop !)) (init ! 41 refl (tt, (tt, (record { fits = go .0 }, tt)))) $
             assigns ! (addr ! (from ! (fld ! refl (hop ! (look-in ! 14 (sub ! 0 refl (whole !))) (stop !))))) (from ! (stop !)) (init ! 42 refl (tt, tt)) $
@@ -446,16 +431,16 @@ module _ {M : Type 1} (𝓤 : URA M) (H : Heap 𝓤) (A : Atoms 𝓤) (W : Given
             (λ over.
             jumps ! $ exec ! C Λ En piece.t-16 (atRet En Post) $
             assigns ! (of-opd ! (load ! (from ! (fld ! refl (stop !))) (look-in ! 19 (sub ! 0 refl (whole !))))) (from ! (stop !)) (init ! 11 refl (tt, record { fits = turns-fits r _ gr .0 })) $
-            owned ! Hd (Is Hd) (LL.makes T.the-type T′.the-plain 𝓤 H A) (with-pairs h₀ (s .pairs)) (T′.lowered (with-pairs h₀ (s .pairs)) ∷ []) (made (s .pairs) hf (t .1 .1 .pairs-fit)) $ move ! (1 ∷ 0 ∷ 2 ∷ 3 ∷ 4 ∷ []) $
-            closes ! tt Hd (with-pairs h₀ (s .pairs)) (T′.lowered (with-pairs h₀ (s .pairs)) ∷ []) (x .0 .ptr .0) (x .0 .ptr .1) $ returns ! (look ! 10 refl) $ forget ! 10 refl $ forget ! 11 refl $ forget ! 12 refl $
-            forget ! 13 refl $ forget ! 14 refl $ forget ! 15 refl $ forget ! 16 refl $ forget ! 17 refl $ forget ! 18 refl $ forget ! 19 refl $ forget ! 33 refl $ move ! (10 ∷ 49 ∷ []) $ free1 ! $ move ! (10 ∷ 48 ∷ []) $
-            free1 ! $ move ! (10 ∷ 47 ∷ []) $ free1 ! $ move ! (10 ∷ 46 ∷ []) $ free1 ! $ move ! (10 ∷ 45 ∷ []) $ free1 ! $ move ! (10 ∷ 44 ∷ []) $ free1 ! $ move ! (10 ∷ 43 ∷ []) $ free1 ! $ move ! (10 ∷ 42 ∷ []) $
-            free1 ! $ move ! (10 ∷ 41 ∷ []) $ free1 ! $ move ! (10 ∷ 40 ∷ []) $ free1 ! $ move ! (10 ∷ 39 ∷ []) $ free1 ! $ move ! (10 ∷ 38 ∷ []) $ free1 ! $ move ! (10 ∷ 37 ∷ []) $ free1 ! $ move ! (10 ∷ 36 ∷ []) $
-            free1 ! $ move ! (10 ∷ 35 ∷ []) $ free1 ! $ move ! (10 ∷ 34 ∷ []) $ free1 ! $ move ! (10 ∷ 33 ∷ []) $ free1 ! $ move ! (10 ∷ 32 ∷ []) $ free1 ! $ move ! (10 ∷ 31 ∷ []) $ free1 ! $ move ! (10 ∷ 30 ∷ []) $
-            free1 ! $ move ! (10 ∷ 29 ∷ []) $ free1 ! $ move ! (10 ∷ 28 ∷ []) $ free1 ! $ move ! (10 ∷ 27 ∷ []) $ free1 ! $ move ! (10 ∷ 26 ∷ []) $ free1 ! $ move ! (10 ∷ 25 ∷ []) $ free1 ! $ move ! (10 ∷ 24 ∷ []) $
-            free1 ! $ move ! (10 ∷ 23 ∷ []) $ free1 ! $ move ! (10 ∷ 22 ∷ []) $ free1 ! $ move ! (10 ∷ 21 ∷ []) $ free1 ! $ move ! (10 ∷ 20 ∷ []) $ free1 ! $ move ! (10 ∷ 19 ∷ []) $ free1 ! $ move ! (10 ∷ 18 ∷ []) $
-            free1 ! $ move ! (10 ∷ 17 ∷ []) $ free1 ! $ move ! (10 ∷ 16 ∷ []) $ free1 ! $ move ! (10 ∷ 15 ∷ []) $ free1 ! $ move ! (10 ∷ 14 ∷ []) $ free1 ! $ move ! (10 ∷ 13 ∷ []) $ free1 ! $ move ! (10 ∷ 12 ∷ []) $
-            free1 ! $ move ! (10 ∷ 11 ∷ []) $ free1 ! $ free0 ! $ by ! (exits t (nltb→le i (r .turns) over)))
+            owned ! Hd (Is Hd) (LL.makes T.the-type T′.the-plain 𝓤 H A) (with-pairs h₀ (s .pairs)) (T′.lowered (with-pairs h₀ (s .pairs)) ∷ []) (pairs-made h₀ (s .pairs) hf (t .1 .1 .pairs-fit)) $
+            move ! (1 ∷ 0 ∷ 2 ∷ 3 ∷ 4 ∷ []) $ closes ! tt Hd (with-pairs h₀ (s .pairs)) (T′.lowered (with-pairs h₀ (s .pairs)) ∷ []) (x .0 .ptr .0) (x .0 .ptr .1) $ returns ! (look ! 10 refl) $ forget ! 10 refl $
+            forget ! 11 refl $ forget ! 12 refl $ forget ! 13 refl $ forget ! 14 refl $ forget ! 15 refl $ forget ! 16 refl $ forget ! 17 refl $ forget ! 18 refl $ forget ! 19 refl $ forget ! 33 refl $
+            move ! (10 ∷ 49 ∷ []) $ free1 ! $ move ! (10 ∷ 48 ∷ []) $ free1 ! $ move ! (10 ∷ 47 ∷ []) $ free1 ! $ move ! (10 ∷ 46 ∷ []) $ free1 ! $ move ! (10 ∷ 45 ∷ []) $ free1 ! $ move ! (10 ∷ 44 ∷ []) $ free1 ! $
+            move ! (10 ∷ 43 ∷ []) $ free1 ! $ move ! (10 ∷ 42 ∷ []) $ free1 ! $ move ! (10 ∷ 41 ∷ []) $ free1 ! $ move ! (10 ∷ 40 ∷ []) $ free1 ! $ move ! (10 ∷ 39 ∷ []) $ free1 ! $ move ! (10 ∷ 38 ∷ []) $ free1 ! $
+            move ! (10 ∷ 37 ∷ []) $ free1 ! $ move ! (10 ∷ 36 ∷ []) $ free1 ! $ move ! (10 ∷ 35 ∷ []) $ free1 ! $ move ! (10 ∷ 34 ∷ []) $ free1 ! $ move ! (10 ∷ 33 ∷ []) $ free1 ! $ move ! (10 ∷ 32 ∷ []) $ free1 ! $
+            move ! (10 ∷ 31 ∷ []) $ free1 ! $ move ! (10 ∷ 30 ∷ []) $ free1 ! $ move ! (10 ∷ 29 ∷ []) $ free1 ! $ move ! (10 ∷ 28 ∷ []) $ free1 ! $ move ! (10 ∷ 27 ∷ []) $ free1 ! $ move ! (10 ∷ 26 ∷ []) $ free1 ! $
+            move ! (10 ∷ 25 ∷ []) $ free1 ! $ move ! (10 ∷ 24 ∷ []) $ free1 ! $ move ! (10 ∷ 23 ∷ []) $ free1 ! $ move ! (10 ∷ 22 ∷ []) $ free1 ! $ move ! (10 ∷ 21 ∷ []) $ free1 ! $ move ! (10 ∷ 20 ∷ []) $ free1 ! $
+            move ! (10 ∷ 19 ∷ []) $ free1 ! $ move ! (10 ∷ 18 ∷ []) $ free1 ! $ move ! (10 ∷ 17 ∷ []) $ free1 ! $ move ! (10 ∷ 16 ∷ []) $ free1 ! $ move ! (10 ∷ 15 ∷ []) $ free1 ! $ move ! (10 ∷ 14 ∷ []) $ free1 ! $
+            move ! (10 ∷ 13 ∷ []) $ free1 ! $ move ! (10 ∷ 12 ∷ []) $ free1 ! $ move ! (10 ∷ 11 ∷ []) $ free1 ! $ free0 ! $ by ! (exits t (nltb→le i (r .turns) over)))
 
   module _ (𝓣 : Tables 𝓤 H) (fm : FmC 𝓤 H (W .laws) (𝓣 .C)) (known : Triple 𝓤 (𝓣 .C #deliver-at) (DeliverAt 𝓤 H A at-mem run)) (known-turns : Triple 𝓤 (𝓣 .C #list-turns) (ListTurns 𝓤 H A at-mem run)) where
     walk : ent 𝓤 (onEntry 𝓤 H A this.signature κs qs x vals) (WpFn 𝓤 H (𝓣 .C) (𝓣 .Λ) code.function (vptr (x .0 .ptr .0) (x .0 .ptr .1) ∷ only (slice-vals (x .1 .0)) ∷ only (slice-vals (x .1 .1 .0)) ∷ only (slice-vals (x .1 .1 .1 .0)) ∷ only (slice-vals (x .1 .1 .1 .1 .0)) ∷ only (slice-vals (x .1 .1 .1 .1 .1 .0)) ∷ only (slice-vals (x .1 .1 .1 .1 .1 .1 .0)) ∷ []) Post)
@@ -476,7 +461,7 @@ module _ {M : Type 1} (𝓤 : URA M) (H : Heap 𝓤) (A : Atoms 𝓤) (W : Given
         move ! (2 ∷ 0 ∷ []) $ fjoin ! $ move ! (2 ∷ []) $ fsplit ! $ move ! (3 ∷ []) $ split ! $ move ! (2 ∷ 0 ∷ []) $ fjoin ! $ move ! (2 ∷ []) $ fsplit ! $ move ! (3 ∷ []) $ split ! $ move ! (2 ∷ 0 ∷ []) $ fjoin ! $
         move ! (2 ∷ []) $ fsplit ! $ move ! (3 ∷ []) $ split ! $ move ! (3 ∷ []) $ fsplit ! $ move ! (3 ∷ []) $ split ! $ move ! (2 ∷ 0 ∷ []) $ fjoin ! $ move ! (2 ∷ []) $ drops ! $ move ! (1 ∷ []) $ drops ! $
         -- the head and the list's length are read, and the slices are reborrowed
-        assigns ! (of-opd ! (load ! (from ! (hop ! (look ! 85 refl) (stop !))) (look-raw ! 7 refl))) (from ! (stop !)) (init ! 65 refl (LL.lawful T.the-type T′.the-laws 𝓤 H A W .typed h₀ _ (made (h₀ .pairs) (head-fits h₀ _ g) (head-fits h₀ _ g .1 .1)) .0)) $
+        assigns ! (of-opd ! (load ! (from ! (hop ! (look ! 85 refl) (stop !))) (look-raw ! 7 refl))) (from ! (stop !)) (init ! 65 refl (LL.lawful T.the-type T′.the-laws 𝓤 H A W .typed h₀ _ (head-made h₀ (head-fits h₀ _ g)) .0)) $
         assigns ! (of-opd ! (load ! (from ! (fld ! refl (stop !))) (look-in ! 75 (sub ! 1 refl (whole !))))) (from ! (stop !)) (init ! 63 refl (tt, record { fits = gl .0 })) $
         assigns ! (addr ! (from ! (fld ! refl (hop ! (look-in ! 83 (sub ! 0 refl (whole !))) (stop !))))) (from ! (stop !)) (init ! 61 refl (tt, tt)) $
         assigns ! (agg ! (and-then ! (load ! (from ! (stop !)) (look ! 61 refl)) (and-then ! (load ! (from ! (fld ! refl (stop !))) (look-in ! 83 (sub ! 1 refl (whole !)))) (no-more !)))) (from ! (stop !)) (init ! 59 refl (tt, (tt, (record { fits = go .0 }, tt)))) $

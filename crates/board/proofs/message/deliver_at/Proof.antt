@@ -1,3 +1,4 @@
+-- `deliver_at` meets its contract: what `deliver` ensures, with the answer's number stored. Assumes nothing.
 use mathlib.Core.Path.{ap}
 use lib.ListN.{set}
 use Rattle.model.specs.Message.{MessageOutcome}
@@ -5,39 +6,30 @@ use borrow.Author.Needs.{needs}
 use Rattle.board.proofs.message.deliver_at.Statement.{statement}
 use Rattle.board.proofs.message.deliver_at.Tie as tie
 
--- src/message.rt:92:9
 deliver-requires : tie.Need-deliver-requires
 deliver-requires c κs = search needs
 
--- src/message.rt:93:5
 mul-answers : tie.Need-mul-answers
 mul-answers c = search needs
 
--- src/message.rt:93:5
 slice-write-answers : tie.Need-slice-write-answers
 slice-write-answers c = search needs
 
--- src/message.rt:79:1
 same-length : tie.Need-same-length
 same-length c = search needs
 
--- src/message.rt:79:1
 same-length-2 : tie.Need-same-length-2
 same-length-2 c = search needs
 
--- src/message.rt:79:1
 same-length-3 : tie.Need-same-length-3
 same-length-3 c = search needs
 
--- src/message.rt:79:1
 same-length-4 : tie.Need-same-length-4
 same-length-4 c = search needs
 
--- src/message.rt:79:1
 same-length-5 : tie.Need-same-length-5
 same-length-5 c = search needs
 
--- src/message.rt:79:1
 returns : tie.Need-returns
 returns c =
     let a = c .before .before .before .before .before .before .before .before .before .before .before .before .before .before .before .before .before .before .args in
