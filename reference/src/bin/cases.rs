@@ -1,0 +1,974 @@
+//! Writes the streams that are replayed, and what replaying them gives, into the folders `replay_calls`,
+//! `replay_deliveries` and `replay_cover` of the folder named by its argument. The same seed gives the same files.
+
+use reference::frames::{replay_cover, write_end, Call, Memory, Outcome, Part, Reference, INDEX_PLACES, PAIR_PLACES};
+use reference::{Head, Message, GRANT, WITHDRAWAL};
+use std::collections::{BTreeMap, BTreeSet};
+use std::path::Path;
+
+const SEED: u64 = 20_250_101;
+
+type Pair = (u16, u16);
+
+/// The board of document 01's samples.
+const SAMPLE: [Pair; 7] = [(0, 0), (0, 1), (1, 0), (1, 1), (2, 1), (2, 2), (3, 2)];
+
+/// Words that are near an edge of 16 bits, of a size or of a mark.
+const ODD_WORDS: [u16; 8] = [0, 1, 2, 7, 255, 256, 32768, 65535];
+
+// Random numbers
+
+/// The generator splitmix64.
+struct Random(u64);
+
+impl Random {
+    fn next(&mut self) -> u64 {
+        self.0 = self.0.wrapping_add(0x9e37_79b9_7f4a_7c15);
+        let mut z = self.0;
+        z = (z ^ (z >> 30)).wrapping_mul(0xbf58_476d_1ce4_e5b9);
+        z = (z ^ (z >> 27)).wrapping_mul(0x94d0_49bb_1331_11eb);
+        z ^ (z >> 31)
+    }
+
+    fn below(&mut self, n: usize) -> usize {
+        (self.next() % n as u64) as usize
+    }
+
+    fn one_in(&mut self, n: usize) -> bool {
+        self.below(n) == 0
+    }
+
+    fn pick<T: Copy>(&mut self, from: &[T]) -> T {
+        from[self.below(from.len())]
+    }
+
+    fn word(&mut self) -> u16 {
+        if self.one_in(3) {
+            self.next() as u16
+        } else {
+            self.pick(&ODD_WORDS)
+        }
+    }
+
+    fn shuffle<T>(&mut self, items: &mut [T]) {
+        for last in (1..items.len()).rev() {
+            items.swap(last, self.below(last + 1));
+        }
+    }
+
+    /// A table in which about `listed` of `of` pairs are listed, in ascending order.
+    fn table(&mut self, operators: u16, rides: u16, listed: usize, of: usize) -> Vec<Pair> {
+        let all = (0..operators).flat_map(|o| (0..rides).map(move |r| (o, r)));
+        all.filter(|_| self.below(of) < listed).collect()
+    }
+
+    /// A table with exactly so many pairs.
+    fn table_of(&mut self, operators: u16, rides: u16, pairs: usize) -> Vec<Pair> {
+        let mut all: Vec<Pair> = (0..operators).flat_map(|o| (0..rides).map(move |r| (o, r))).collect();
+        self.shuffle(&mut all);
+        all.truncate(pairs);
+        all.sort_unstable();
+        all
+    }
+
+    /// A length that is at least the one needed.
+    fn length(&mut self, needed: usize) -> usize {
+        needed + self.pick(&[0, 0, 1, 2, 5])
+    }
+
+    /// A length that is too short, where there is one.
+    fn short(&mut self, needed: usize) -> usize {
+        match needed {
+            0 => 0,
+            _ if self.one_in(2) => needed - 1,
+            _ => self.below(needed),
+        }
+    }
+}
+
+// A stream
+
+/// A stream being written and what replaying it gives, the memory that its calls leave, and how often each call gave
+/// each number.
+struct Stream {
+    bytes: Vec<u8>,
+    text: String,
+    memory: Memory,
+    given: BTreeMap<(&'static str, u16), usize>,
+}
+
+impl Stream {
+    fn new() -> Self {
+        Stream { bytes: Vec::new(), text: String::new(), memory: Memory::default(), given: BTreeMap::new() }
+    }
+
+    fn call(&mut self, call: Call) -> (Outcome, Head) {
+        call.write(&mut self.bytes);
+        let (outcome, head) = call.run(&mut Reference, &mut self.memory);
+        self.text += &format!("{outcome}\n");
+        let code = outcome.numbers[0];
+        match call {
+            Call::Build { .. } => self.gave("build", code),
+            Call::Query { .. } => self.gave("query", code),
+            Call::Peel { .. } => self.gave("peel", code),
+            Call::Message { .. } => self.gave("message", code),
+            Call::Messages { messages, .. } => {
+                self.gave("message list", code);
+                let answered = if code == 0 { messages.len() } else { 0 };
+                for place in 0..answered {
+                    self.gave("message of a list", self.memory.answers[place]);
+                }
+            }
+        }
+        (outcome, head)
+    }
+
+    fn gave(&mut self, name: &'static str, code: u16) {
+        *self.given.entry((name, code)).or_default() += 1;
+    }
+
+    /// Every number that a call can give is given at least `least` times.
+    fn covers(&self, name: &'static str, numbers: &[u16], least: usize) {
+        for number in numbers {
+            let times = self.given.get(&(name, *number)).copied().unwrap_or(0);
+            assert!(times >= least, "{name}: {number} given {times} times only");
+        }
+    }
+}
+
+// Boards, whole and damaged
+
+/// A board with what is lent of it, before damage is done to it.
+#[derive(Clone)]
+struct Draft {
+    head: Head,
+    operators: Vec<u16>,
+    rides: Vec<u16>,
+    stamps: Vec<u32>,
+    index: Vec<u16>,
+    /// What the places after the given words hold.
+    others: u16,
+    operators_len: usize,
+    rides_len: usize,
+    stamps_len: usize,
+    index_len: usize,
+}
+
+impl Draft {
+    fn new(random: &mut Random, operators: u16, rides: u16, pairs: &[Pair]) -> Self {
+        let head = Head { operators, rides, pairs: pairs.len() as u16 };
+        Draft {
+            head,
+            operators: pairs.iter().map(|pair| pair.0).collect(),
+            rides: pairs.iter().map(|pair| pair.1).collect(),
+            stamps: Vec::new(),
+            index: Vec::new(),
+            others: random.word(),
+            operators_len: random.length(head.places()),
+            rides_len: random.length(head.places()),
+            stamps_len: random.length(head.places()),
+            index_len: random.length(head.words()),
+        }
+    }
+
+    /// A small board, at times with no operator or no ride, or with one row as long as it may be.
+    fn small(random: &mut Random) -> Self {
+        let (operators, rides) = match random.below(40) {
+            0 => (200, 1),
+            1 => (1, 60),
+            2 => (0, random.below(4) as u16),
+            3 => (random.below(4) as u16, 0),
+            _ => (1 + random.below(7) as u16, 1 + random.below(6) as u16),
+        };
+        let listed = random.pick(&[0, 1, 2, 3, 3, 4, 5, 6]);
+        let pairs = random.table(operators, rides, listed, 6);
+        Self::new(random, operators, rides, &pairs)
+    }
+
+    fn operators(&self) -> Part<u16> {
+        Part::given(self.operators_len.min(PAIR_PLACES), &self.operators, self.others)
+    }
+
+    fn rides(&self) -> Part<u16> {
+        Part::given(self.rides_len.min(PAIR_PLACES), &self.rides, self.others)
+    }
+
+    fn stamps(&self) -> Part<u32> {
+        Part::given(self.stamps_len.min(PAIR_PLACES), &self.stamps, self.others as u32 * 65_537)
+    }
+
+    fn index(&self) -> Part<u16> {
+        Part::given(self.index_len.min(INDEX_PLACES), &self.index, self.others)
+    }
+
+    fn build(&self, start: u32) -> Call {
+        Call::Build {
+            head: self.head,
+            start,
+            operators: self.operators(),
+            rides: self.rides(),
+            stamps: self.stamps(),
+            index: self.index(),
+        }
+    }
+
+    fn message(&self, message: Message) -> Call {
+        Call::Message {
+            head: self.head,
+            message,
+            operators: self.operators(),
+            rides: self.rides(),
+            stamps: self.stamps(),
+            index: self.index(),
+        }
+    }
+
+    fn messages(&self, messages: &[Message], answers: Part<u16>) -> Call {
+        Call::Messages {
+            head: self.head,
+            messages: messages.to_vec(),
+            operators: self.operators(),
+            rides: self.rides(),
+            stamps: self.stamps(),
+            index: self.index(),
+            answers,
+        }
+    }
+
+    /// A size above its bound. The parts may be lent as long as that size would need.
+    fn oversize(&mut self, random: &mut Random) {
+        match random.below(4) {
+            0 => self.head.operators = 201 + random.pick(&[0, 0, 54, 55, 1000, 65334]),
+            1 => self.head.rides = 61 + random.pick(&[0, 0, 194, 195, 1000, 65474]),
+            2 => {
+                self.head.operators = 201;
+                self.head.rides = random.pick(&[1, 2, 60, 61]);
+                self.lengthen();
+            }
+            _ => {
+                self.head.operators = random.pick(&[1, 2, 200, 201]);
+                self.head.rides = 61;
+                self.lengthen();
+            }
+        }
+    }
+
+    fn lengthen(&mut self) {
+        self.operators_len = self.head.places();
+        self.rides_len = self.head.places();
+        self.stamps_len = self.head.places();
+        self.index_len = self.head.words();
+    }
+
+    /// A part of the pair arrays that is too short.
+    fn shorten_pairs(&mut self, random: &mut Random) {
+        if random.one_in(2) {
+            self.operators_len = random.short(self.head.places());
+        } else {
+            self.rides_len = random.short(self.head.places());
+        }
+    }
+
+    fn too_many_pairs(&mut self, random: &mut Random) {
+        let places = self.head.places().min(65_534) as u16;
+        self.head.pairs = random.pick(&[places + 1, places + 1, places.saturating_add(2), 65_535]);
+    }
+
+    /// A pair out of range, a pair twice, two pairs or two rides in the wrong order, or more pairs counted than given.
+    fn disorder(&mut self, random: &mut Random) {
+        let count = self.operators.len();
+        if count == 0 || random.one_in(8) {
+            self.head.pairs = self.head.pairs.saturating_add(1);
+            return;
+        }
+        let place = random.below(count);
+        let next = (place + 1).min(count - 1);
+        match random.below(6) {
+            0 => self.operators[place] = random.pick(&[self.head.operators, self.head.operators, 65_535]),
+            1 => self.rides[place] = random.pick(&[self.head.rides, self.head.rides, 65_535]),
+            2 => {
+                self.operators[next] = self.operators[place];
+                self.rides[next] = self.rides[place];
+            }
+            3 => self.rides.swap(place, next),
+            4 => {
+                self.operators.swap(place, next);
+                self.rides.swap(place, next);
+            }
+            _ => self.operators[count - 1] = 0,
+        }
+    }
+}
+
+/// How many faults a damaged case gets: none, one, or more at once.
+fn faults(random: &mut Random) -> usize {
+    random.pick(&[0, 0, 0, 1, 1, 1, 1, 1, 2, 2, 2, 3])
+}
+
+fn marks_of(random: &mut Random, nodes: usize) -> Vec<u16> {
+    let ones = random.pick(&[1, 2, 6, 6, 6]);
+    (0..nodes).map(|_| (random.below(6) < ones) as u16).collect()
+}
+
+/// Limits at and around those that can be met.
+fn limit(random: &mut Random, most: u16) -> u16 {
+    match random.below(8) {
+        0 => most.saturating_add(1),
+        1 => random.pick(&[most.saturating_add(2), 65_535, most.max(1)]),
+        _ => 1 + random.below(most.clamp(1, 4) as usize) as u16,
+    }
+}
+
+// Single calls
+
+fn build_case(random: &mut Random) -> Call {
+    let mut draft = Draft::small(random);
+    let mut start = random.pick(&[1, 1, 2, 5, 65_535, 65_536, 4_294_967_295]);
+    for _ in 0..faults(random) {
+        match random.below(7) {
+            0 => draft.oversize(random),
+            1 => draft.shorten_pairs(random),
+            2 => draft.stamps_len = random.short(draft.head.places()),
+            3 => draft.index_len = random.short(draft.head.words()),
+            4 => draft.too_many_pairs(random),
+            5 => draft.disorder(random),
+            _ => start = 0,
+        }
+    }
+    draft.build(start)
+}
+
+/// An index for a query: what a build leaves, or any words.
+fn index_words(random: &mut Random, draft: &Draft) -> Vec<u16> {
+    match random.below(3) {
+        0 => (0..draft.head.words()).map(|_| random.below(6) as u16).collect(),
+        1 => (0..draft.head.words()).map(|_| random.word()).collect(),
+        _ => built(draft).0,
+    }
+}
+
+/// What a build of a draft that is not damaged leaves: the index and the stamps.
+fn built(draft: &Draft) -> (Vec<u16>, Vec<u32>) {
+    let mut memory = Memory::default();
+    draft.build(1).run(&mut Reference, &mut memory);
+    memory.index.truncate(draft.head.words());
+    memory.stamps.truncate(draft.head.places());
+    (memory.index, memory.stamps)
+}
+
+fn query_case(random: &mut Random) -> Call {
+    let mut draft = Draft::small(random);
+    draft.index = index_words(random, &draft);
+    let nodes = draft.head.nodes();
+    let mut marks = Part::filled(random.length(nodes), random.word());
+    let mut alpha = limit(random, draft.head.rides);
+    let mut beta = limit(random, draft.head.operators);
+    if random.one_in(5) {
+        draft.head.pairs = random.word();
+    }
+    for _ in 0..faults(random) {
+        match random.below(5) {
+            0 => {
+                draft.oversize(random);
+                marks.len = draft.head.nodes().min(265);
+            }
+            1 => draft.index_len = random.short(draft.head.words()).min(20),
+            2 => marks.len = random.short(nodes),
+            3 => alpha = 0,
+            _ => beta = 0,
+        }
+    }
+    let index = draft.index();
+    Call::Query { head: draft.head, alpha, beta, index, marks }
+}
+
+fn peel_case(random: &mut Random) -> Call {
+    let mut draft = Draft::small(random);
+    let nodes = draft.head.nodes();
+    let mut words = marks_of(random, nodes);
+    let mut marks_len = random.length(nodes);
+    let mut alpha = limit(random, draft.head.rides);
+    let mut beta = limit(random, draft.head.operators);
+    let steps = match random.below(4) {
+        0 => random.below(nodes + 2) as u16,
+        1 => random.below(4) as u16,
+        2 => nodes as u16,
+        _ => 65_535,
+    };
+    for _ in 0..faults(random) {
+        match random.below(8) {
+            0 => {
+                draft.oversize(random);
+                marks_len = draft.head.nodes().min(265);
+            }
+            1 => draft.shorten_pairs(random),
+            2 => marks_len = random.short(nodes),
+            3 => draft.too_many_pairs(random),
+            4 => draft.disorder(random),
+            5 => alpha = 0,
+            6 => beta = 0,
+            _ => {
+                if nodes > 0 {
+                    words[random.below(nodes)] = random.pick(&[2, 3, 256, 65_535]);
+                }
+            }
+        }
+    }
+    Call::Peel {
+        head: draft.head,
+        alpha,
+        beta,
+        steps,
+        operators: draft.operators(),
+        rides: draft.rides(),
+        marks: Part::given(marks_len, &words, random.word()),
+    }
+}
+
+/// A message for a board of these sizes, mostly a valid one. Stamps are few, so that many are equal.
+fn some_message(random: &mut Random, head: Head, start: u32) -> Message {
+    let size = |random: &mut Random, count: u16| {
+        if count == 0 || random.one_in(25) {
+            random.pick(&[count, count, count.saturating_add(1), 65_535])
+        } else {
+            random.below(count as usize) as u16
+        }
+    };
+    Message {
+        kind: if random.one_in(20) {
+            random.pick(&[0, 3, 256, 257, 65_535])
+        } else {
+            random.pick(&[GRANT, GRANT, WITHDRAWAL])
+        },
+        operator: size(random, head.operators),
+        ride: size(random, head.rides),
+        stamp: match random.below(20) {
+            0 => 0,
+            1 => random.pick(&[4_294_967_295, 4_294_967_294, 65_536, 65_535]),
+            2..=5 => start,
+            6 => start.saturating_add(1),
+            7 => start.saturating_sub(1),
+            _ => 1 + random.below(9) as u32,
+        },
+    }
+}
+
+/// A board that a message may find: stamps of its own, and an index that need not be that of the pairs.
+fn found_board(random: &mut Random) -> Draft {
+    let mut draft = Draft::small(random);
+    let (index, stamps) = built(&draft);
+    draft.index = index;
+    match random.below(4) {
+        0 => draft.index.iter_mut().for_each(|word| *word = random.word()),
+        1 => draft.index.iter_mut().for_each(|word| {
+            if random.one_in(5) {
+                *word = random.below(5) as u16;
+            }
+        }),
+        _ => {}
+    }
+    draft.stamps = stamps;
+    for stamp in &mut draft.stamps {
+        *stamp = if *stamp == 0 {
+            random.pick(&[0, 0, 0, 1, 2, 4_294_967_295])
+        } else {
+            random.pick(&[1, 2, 3, 4, 4_294_967_295])
+        };
+    }
+    draft
+}
+
+/// Does one of the damages that 1 to 6 speak of to a board that is lent to a message.
+fn damage_board(random: &mut Random, draft: &mut Draft) {
+    match random.below(7) {
+        0 => draft.oversize(random),
+        1 => draft.shorten_pairs(random),
+        2 => draft.stamps_len = random.short(draft.head.places()),
+        3 => draft.index_len = random.short(draft.head.words()),
+        4 => draft.too_many_pairs(random),
+        5 => draft.disorder(random),
+        _ => {
+            let count = draft.operators.len();
+            if count > 0 && draft.operators.iter().all(|operator| *operator < 200) {
+                let place = random.below(count);
+                let at = draft.operators[place] as usize * draft.head.rides as usize + draft.rides[place] as usize;
+                if at < draft.stamps.len() {
+                    draft.stamps[at] = 0;
+                }
+            }
+        }
+    }
+}
+
+fn message_case(random: &mut Random) -> Call {
+    let mut draft = found_board(random);
+    let message = some_message(random, draft.head, 2);
+    for _ in 0..faults(random) {
+        damage_board(random, &mut draft);
+    }
+    draft.message(message)
+}
+
+fn messages_case(random: &mut Random) -> Call {
+    let mut draft = found_board(random);
+    let count = random.below(12);
+    let messages: Vec<Message> = (0..count).map(|_| some_message(random, draft.head, 2)).collect();
+    let mut answers_len = random.length(count);
+    for _ in 0..faults(random) {
+        if random.one_in(6) {
+            answers_len = random.short(count);
+        } else {
+            damage_board(random, &mut draft);
+        }
+    }
+    draft.messages(&messages, Part::filled(answers_len, random.word()))
+}
+
+// Calls on a board that stays
+
+fn kept_query(random: &mut Random, head: Head, alpha: u16, beta: u16) -> Call {
+    Call::Query {
+        head,
+        alpha,
+        beta,
+        index: Part::kept(random.length(head.words())),
+        marks: Part::filled(random.length(head.nodes()), random.word()),
+    }
+}
+
+fn kept_peel(random: &mut Random, head: Head, alpha: u16, beta: u16, steps: u16, marks: Part<u16>) -> Call {
+    Call::Peel {
+        head,
+        alpha,
+        beta,
+        steps,
+        operators: Part::kept(random.length(head.places())),
+        rides: Part::kept(random.length(head.places())),
+        marks,
+    }
+}
+
+fn all_ones(random: &mut Random, head: Head) -> Part<u16> {
+    Part::filled(random.length(head.nodes()), 1)
+}
+
+/// How a board that stays is lent to a call.
+struct Lent {
+    operators: Part<u16>,
+    rides: Part<u16>,
+    stamps: Part<u32>,
+    index: Part<u16>,
+}
+
+impl Lent {
+    fn whole(random: &mut Random, head: Head) -> Self {
+        Lent {
+            operators: Part::kept(random.length(head.places())),
+            rides: Part::kept(random.length(head.places())),
+            stamps: Part::kept(random.length(head.places())),
+            index: Part::kept(random.length(head.words())),
+        }
+    }
+
+    /// One of the parts is lent too short.
+    fn short(random: &mut Random, head: Head) -> Self {
+        let mut lent = Self::whole(random, head);
+        match random.below(4) {
+            0 => lent.operators.len = random.short(head.places()),
+            1 => lent.rides.len = random.short(head.places()),
+            2 => lent.stamps.len = random.short(head.places()),
+            _ => lent.index.len = random.short(head.words()),
+        }
+        lent
+    }
+
+    /// Some words of the index are other than they were.
+    fn changed(random: &mut Random, head: Head) -> Self {
+        let mut lent = Self::whole(random, head);
+        let count = 1 + random.below(head.words());
+        let words: Vec<u16> = (0..count.min(20)).map(|_| random.below(4) as u16).collect();
+        lent.index = Part::changed(lent.index.len, random.below(head.words()), &words);
+        lent
+    }
+
+    fn message(self, head: Head, message: Message) -> Call {
+        Call::Message {
+            head,
+            message,
+            operators: self.operators,
+            rides: self.rides,
+            stamps: self.stamps,
+            index: self.index,
+        }
+    }
+
+    fn messages(self, head: Head, messages: &[Message], answers: Part<u16>) -> Call {
+        Call::Messages {
+            head,
+            messages: messages.to_vec(),
+            operators: self.operators,
+            rides: self.rides,
+            stamps: self.stamps,
+            index: self.index,
+            answers,
+        }
+    }
+}
+
+/// What may happen between two deliveries.
+#[derive(Clone, Copy, PartialEq)]
+enum Between {
+    Nothing,
+    /// Calls lent too short a part, queries and peels.
+    Harmless,
+    /// Also words of the index that change.
+    IndexChanges,
+}
+
+/// The words of a board, to the lengths of document 01's layout.
+fn board_words(memory: &Memory, head: Head) -> (Head, Vec<u16>, Vec<u16>, Vec<u32>, Vec<u16>) {
+    (
+        head,
+        memory.operators[..head.places()].to_vec(),
+        memory.rides[..head.places()].to_vec(),
+        memory.stamps[..head.places()].to_vec(),
+        memory.index[..head.words()].to_vec(),
+    )
+}
+
+/// Delivers messages in the order given to the board that a build left, cut into calls at random. Gives the head that
+/// they leave.
+fn deliver(
+    random: &mut Random,
+    stream: &mut Stream,
+    built: Head,
+    messages: &[Message],
+    most: usize,
+    between: Between,
+) -> Head {
+    let mut head = built;
+    let mut rest = messages;
+    while !rest.is_empty() {
+        if between != Between::Nothing && random.one_in(6) {
+            interrupt(random, stream, head, rest);
+        }
+        let changes = between == Between::IndexChanges && random.one_in(3);
+        let lent = if changes { Lent::changed(random, head) } else { Lent::whole(random, head) };
+        if random.one_in(3) {
+            head = stream.call(lent.message(head, rest[0])).1;
+            rest = &rest[1..];
+        } else {
+            let count = random.below(rest.len().min(most) + 1);
+            let answers = Part::filled(random.length(count), random.word());
+            head = stream.call(lent.messages(head, &rest[..count], answers)).1;
+            rest = &rest[count..];
+        }
+    }
+    head
+}
+
+/// A call that leaves the board: one that is lent too little, a query or a peel.
+fn interrupt(random: &mut Random, stream: &mut Stream, head: Head, rest: &[Message]) {
+    let count = rest.len().min(4);
+    let lent = Lent::short(random, head);
+    let alpha = limit(random, head.rides);
+    let beta = limit(random, head.operators);
+    let call = match random.below(5) {
+        0 => lent.message(head, rest[0]),
+        1 => lent.messages(head, &rest[..count], Part::filled(random.length(count), random.word())),
+        2 => {
+            let answers = Part::filled(random.short(count), random.word());
+            Lent::whole(random, head).messages(head, &rest[..count], answers)
+        }
+        3 => kept_query(random, head, alpha, beta),
+        _ => {
+            let marks = all_ones(random, head);
+            kept_peel(random, head, alpha, beta, 65_535, marks)
+        }
+    };
+    stream.call(call);
+}
+
+/// A small board and its messages, with repeats.
+fn delivery_case(random: &mut Random, stream: &mut Stream) {
+    let operators = 1 + random.below(6) as u16;
+    let rides = 1 + random.below(5) as u16;
+    let listed = random.below(6);
+    let pairs = random.table(operators, rides, listed, 6);
+    let draft = Draft::new(random, operators, rides, &pairs);
+    let start = random.pick(&[1, 2, 4, 5, 5, 5, 4_294_967_295]);
+    let count = 4 + random.below(24);
+    let mut messages: Vec<Message> = (0..count).map(|_| some_message(random, draft.head, start)).collect();
+    for _ in 0..random.below(12) {
+        messages.push(messages[random.below(count)]);
+    }
+    let mut left = BTreeSet::new();
+    for between in [random.pick(&[Between::Nothing, Between::Harmless]), Between::Harmless] {
+        random.shuffle(&mut messages);
+        stream.call(draft.build(start));
+        let head = deliver(random, stream, draft.head, &messages, 64, between);
+        left.insert(format!("{:?}", board_words(&stream.memory, head)));
+    }
+    assert_eq!(left.len(), 1, "two orders of delivery leave one board");
+    if random.one_in(4) {
+        random.shuffle(&mut messages);
+        stream.call(draft.build(start));
+        deliver(random, stream, draft.head, &messages, 64, Between::IndexChanges);
+    }
+}
+
+// Samples of document 01
+
+fn sample_draft(random: &mut Random) -> Draft {
+    Draft::new(random, 4, 3, &SAMPLE)
+}
+
+fn sample_calls(random: &mut Random, stream: &mut Stream) {
+    let draft = sample_draft(random);
+    stream.call(draft.build(1));
+    for (alpha, beta) in [(1, 3), (1, 4), (2, 2), (4, 1), (65_535, 1), (1, 65_535)] {
+        let query = kept_query(random, draft.head, alpha, beta);
+        stream.call(query);
+    }
+    for steps in [65_535, 0, 1, 2, 3, 4] {
+        let marks = all_ones(random, draft.head);
+        let peel = kept_peel(random, draft.head, 2, 2, steps, marks);
+        stream.call(peel);
+    }
+    let settled = Part::kept(draft.head.nodes());
+    let peel = kept_peel(random, draft.head, 2, 2, 0, settled);
+    stream.call(peel);
+    for (operators, rides) in [(200, 60), (201, 60), (200, 61), (201, 61)] {
+        let mut draft = Draft::new(random, operators, rides, &[(0, 0), (3, 4), (199, 59)]);
+        draft.lengthen();
+        stream.call(draft.build(1));
+    }
+}
+
+fn sample_deliveries(random: &mut Random, stream: &mut Stream) {
+    let draft = sample_draft(random);
+    let message = |kind, operator, ride, stamp| Message { kind, operator, ride, stamp };
+    stream.call(draft.build(1));
+    deliver(random, stream, draft.head, &[message(GRANT, 3, 1, 2)], 1, Between::Nothing);
+    let at_five = [message(GRANT, 0, 0, 5), message(WITHDRAWAL, 0, 0, 5), message(GRANT, 0, 0, 6)];
+    for _ in 0..3 {
+        stream.call(draft.build(5));
+        deliver(random, stream, draft.head, &at_five, 3, Between::Nothing);
+    }
+    let never_granted = [message(WITHDRAWAL, 3, 0, 9), message(GRANT, 3, 0, 9), message(GRANT, 3, 0, 8)];
+    stream.call(draft.build(5));
+    deliver(random, stream, draft.head, &never_granted, 2, Between::Nothing);
+}
+
+// Large boards
+
+/// Tables of 200 by 60, and a few near that.
+fn large_tables(random: &mut Random) -> Vec<(u16, u16, Vec<Pair>)> {
+    let mut tables = Vec::new();
+    for pairs in [0, 25, 300, 3_000, 6_000, 6_000, 12_000, 11_900] {
+        tables.push((200, 60, random.table_of(200, 60, pairs)));
+    }
+    tables.push((199, 59, random.table_of(199, 59, 5_000)));
+    tables.push((61, 60, random.table_of(61, 60, 1_500)));
+    tables.push((200, 7, random.table_of(200, 7, 700)));
+    // Each operator with as many rides as its number allows: every level differs.
+    let stairs: Vec<Pair> =
+        (0..200).flat_map(|o| (0..60).map(move |r| (o, r))).filter(|(o, r)| o + 3 * r < 200).collect();
+    tables.push((200, 60, stairs));
+    tables
+}
+
+fn large_calls(random: &mut Random, stream: &mut Stream) {
+    for (operators, rides, pairs) in large_tables(random) {
+        let draft = Draft::new(random, operators, rides, &pairs);
+        stream.call(draft.build(random.pick(&[1, 4_294_967_295])));
+        let mean_alpha = (pairs.len() / operators as usize) as u16;
+        let mean_beta = (pairs.len() / rides as usize) as u16;
+        for _ in 0..12 {
+            let alpha = limit(random, rides).max(random.pick(&[1, mean_alpha, mean_alpha.saturating_sub(2)]));
+            let beta = limit(random, operators).max(random.pick(&[1, mean_beta, mean_beta.saturating_sub(5)]));
+            let query = kept_query(random, draft.head, alpha, beta);
+            stream.call(query);
+            let words = marks_of(random, draft.head.nodes());
+            let marks = Part::given(random.length(draft.head.nodes()), &words, 5);
+            let marks = if random.one_in(2) { marks } else { all_ones(random, draft.head) };
+            let steps = random.pick(&[65_535, 260, 259, 30, 3, 0]);
+            let peel = kept_peel(random, draft.head, alpha, beta, steps, marks);
+            stream.call(peel);
+        }
+    }
+}
+
+/// Pair arrays of the largest size that are wrong at one place only, and parts that are short by one place.
+fn large_refusals(random: &mut Random, stream: &mut Stream) {
+    let pairs = random.table_of(200, 60, 900);
+    for damage in 0..8 {
+        let mut draft = Draft::new(random, 200, 60, &pairs);
+        match damage {
+            0 => draft.operators[899] = 200,
+            1 => draft.rides[450] = 60,
+            2 => draft.operators_len = 11_999,
+            3 => draft.rides_len = 11_999,
+            4 => draft.stamps_len = 11_999,
+            5 => draft.index_len = 15_599,
+            6 => draft.head.pairs = 12_001,
+            _ => {
+                draft.operators[899] = draft.operators[898];
+                draft.rides[899] = draft.rides[898];
+            }
+        }
+        stream.call(draft.build(1));
+        let marks = all_ones(random, draft.head);
+        let peel = Call::Peel {
+            head: draft.head,
+            alpha: 1,
+            beta: 1,
+            steps: 65_535,
+            operators: draft.operators(),
+            rides: draft.rides(),
+            marks,
+        };
+        stream.call(peel);
+    }
+}
+
+fn large_deliveries(random: &mut Random, stream: &mut Stream) {
+    for (operators, rides, pairs) in large_tables(random) {
+        let draft = Draft::new(random, operators, rides, &pairs);
+        stream.call(draft.build(5));
+        let mut messages: Vec<Message> = (0..8).map(|_| some_message(random, draft.head, 5)).collect();
+        for _ in 0..3 {
+            let (operator, ride) = if pairs.is_empty() { (199, 59) } else { random.pick(&pairs) };
+            messages.push(Message { kind: WITHDRAWAL, operator, ride, stamp: 5 + random.below(3) as u32 });
+        }
+        messages.push(messages[random.below(8)]);
+        random.shuffle(&mut messages);
+        deliver(random, stream, draft.head, &messages, 6, Between::IndexChanges);
+    }
+}
+
+// The program `cover`
+
+fn cover_input(head: Head, pairs: &[Pair], alpha: u16, beta: u16) -> Vec<u8> {
+    let operators = pairs.iter().map(|pair| pair.0);
+    let rides = pairs.iter().map(|pair| pair.1);
+    let sizes = [head.operators, head.rides, head.pairs];
+    let words = sizes.into_iter().chain(operators).chain(rides).chain([alpha, beta]);
+    words.flat_map(u16::to_le_bytes).collect()
+}
+
+fn cover_case(random: &mut Random) -> Vec<u8> {
+    let mut draft = Draft::small(random);
+    let mut alpha = limit(random, draft.head.rides);
+    let mut beta = limit(random, draft.head.operators);
+    let mut length_off: isize = 0;
+    for _ in 0..faults(random) {
+        match random.below(7) {
+            0 => draft.oversize(random),
+            1 => draft.too_many_pairs(random),
+            2 => draft.disorder(random),
+            3 => alpha = 0,
+            4 => beta = 0,
+            _ => length_off = random.pick(&[-1, 1, -2, 2, -4, 4, 3, -3, 100, -1000]),
+        }
+    }
+    let pairs: Vec<Pair> = draft.operators.iter().copied().zip(draft.rides.iter().copied()).collect();
+    let mut input = cover_input(draft.head, &pairs, alpha, beta);
+    let length = input.len().saturating_add_signed(length_off);
+    input.resize(length, 1);
+    input
+}
+
+fn cover_inputs(random: &mut Random) -> Vec<Vec<u8>> {
+    let sample = Head { operators: 4, rides: 3, pairs: 7 };
+    let whole = cover_input(sample, &SAMPLE, 2, 2);
+    let mut inputs = vec![whole.clone()];
+    for (alpha, beta) in [(1, 3), (1, 4), (3, 1), (4, 1), (1, 5), (65_535, 65_535), (0, 0), (1, 1)] {
+        inputs.push(cover_input(sample, &SAMPLE, alpha, beta));
+    }
+    inputs.extend((0..whole.len()).map(|length| whole[..length].to_vec()));
+    for (operators, rides) in [(200, 60), (201, 60), (200, 61), (201, 61)] {
+        inputs.push(cover_input(Head { operators, rides, pairs: 1 }, &[(199, 59)], 1, 1));
+    }
+    inputs.extend((0..1_500).map(|_| cover_case(random)));
+    for (operators, rides, pairs) in large_tables(random) {
+        let head = Head { operators, rides, pairs: pairs.len() as u16 };
+        let alpha = (pairs.len() / operators as usize).max(1) as u16;
+        let beta = (pairs.len() / rides as usize).max(1) as u16;
+        inputs.push(cover_input(head, &pairs, alpha.saturating_sub(3).max(1), beta.saturating_sub(8).max(1)));
+    }
+    let full = random.table_of(200, 60, 12_000);
+    let head = Head { operators: 200, rides: 60, pairs: 12_000 };
+    let mut long = cover_input(head, &full, 60, 200);
+    long.resize(65_535, 0);
+    inputs.push(long);
+    inputs
+}
+
+// The files
+
+fn calls(random: &mut Random) -> Stream {
+    let mut stream = Stream::new();
+    sample_calls(random, &mut stream);
+    for _ in 0..2_600 {
+        let case = build_case(random);
+        stream.call(case);
+        let case = query_case(random);
+        stream.call(case);
+        let case = peel_case(random);
+        stream.call(case);
+    }
+    large_refusals(random, &mut stream);
+    large_calls(random, &mut stream);
+    write_end(&mut stream.bytes);
+    stream.covers("build", &[0, 1, 2, 3, 4, 5, 9], 60);
+    stream.covers("query", &[0, 1, 2, 3, 11], 60);
+    stream.covers("peel", &[0, 1, 2, 3, 4, 5, 11, 12], 60);
+    stream
+}
+
+fn deliveries(random: &mut Random) -> Stream {
+    let mut stream = Stream::new();
+    sample_deliveries(random, &mut stream);
+    for _ in 0..1_500 {
+        let case = message_case(random);
+        stream.call(case);
+        let case = messages_case(random);
+        stream.call(case);
+    }
+    for _ in 0..900 {
+        delivery_case(random, &mut stream);
+    }
+    large_deliveries(random, &mut stream);
+    write_end(&mut stream.bytes);
+    stream.covers("message", &[0, 1, 2, 3, 4, 5, 6, 7, 8, 9, 10], 30);
+    stream.covers("message list", &[0, 1, 2, 3, 4, 5, 6], 30);
+    stream.covers("message of a list", &[0, 7, 8, 9, 10], 30);
+    stream
+}
+
+fn write(folder: &Path, stdin: &[u8], stdout: &[u8]) {
+    std::fs::create_dir_all(folder).expect("the folder can be made");
+    std::fs::write(folder.join("stdin"), stdin).expect("stdin can be written");
+    std::fs::write(folder.join("stdout"), stdout).expect("stdout can be written");
+    println!("{}: {} bytes in, {} bytes out", folder.display(), stdin.len(), stdout.len());
+}
+
+fn main() {
+    let root = std::env::args().nth(1).expect("the folder to write to");
+    let root = Path::new(&root);
+    let calls = calls(&mut Random(SEED));
+    let deliveries = deliveries(&mut Random(SEED + 1));
+    for (name, stream) in [("replay_calls", calls), ("replay_deliveries", deliveries)] {
+        write(&root.join(name), &stream.bytes, stream.text.as_bytes());
+        for ((call, code), times) in &stream.given {
+            println!("  {call}: {code} given {times} times");
+        }
+    }
+    let mut stream = Vec::new();
+    for input in cover_inputs(&mut Random(SEED + 2)) {
+        stream.extend(u16::try_from(input.len()).expect("an input of at most 65535 bytes").to_le_bytes());
+        stream.extend(input);
+    }
+    write(&root.join("replay_cover"), &stream, &replay_cover(&stream, reference::cover));
+}

@@ -1,0 +1,564 @@
+//! The streams of calls that are replayed, as README.md lays them out: what writes a frame, and what replays a stream
+//! and gives the line of text for each call.
+
+use crate::{Answer, Counts, Head, Message, Peeled};
+
+/// The most places of each part that a frame may lend.
+pub const PAIR_PLACES: usize = 12_300;
+pub const INDEX_PLACES: usize = 16_000;
+pub const MARK_PLACES: usize = 270;
+pub const ANSWER_PLACES: usize = 70;
+
+/// The kinds of a frame.
+pub const BUILD: u16 = 1;
+pub const QUERY: u16 = 2;
+pub const PEEL: u16 = 3;
+pub const MESSAGE: u16 = 4;
+pub const MESSAGES: u16 = 5;
+
+// What a frame says of a lent part
+
+/// How many places are lent, the word that all of them are set to first, and the words put from a place on after that.
+/// What neither reaches is as the call before left it.
+#[derive(Clone, Debug, Default, PartialEq, Eq)]
+pub struct Part<T> {
+    pub len: usize,
+    pub fill: Option<T>,
+    pub words: Vec<T>,
+    pub from: usize,
+}
+
+impl<T: Clone + Default> Part<T> {
+    /// Lent as the call before left it.
+    pub fn kept(len: usize) -> Self {
+        Part { len, ..Self::default() }
+    }
+
+    pub fn filled(len: usize, word: T) -> Self {
+        Part { len, fill: Some(word), ..Self::default() }
+    }
+
+    /// The first words given, and the others all equal to one.
+    pub fn given(len: usize, words: &[T], others: T) -> Self {
+        let count = words.len().min(len);
+        Part { len, fill: Some(others), words: words[..count].to_vec(), from: 0 }
+    }
+
+    /// As the call before left it, but for the words from a place on.
+    pub fn changed(len: usize, from: usize, words: &[T]) -> Self {
+        let count = words.len().min(len.saturating_sub(from));
+        Part { len, fill: None, words: words[..count].to_vec(), from }
+    }
+}
+
+/// A word of a part, as the 16-bit words that stand for it in a frame.
+pub trait Word: Copy {
+    fn put(self, frame: &mut Vec<u16>);
+    fn get(frame: &mut Cursor) -> Self;
+    fn value(self) -> u64;
+}
+
+impl Word for u16 {
+    fn put(self, frame: &mut Vec<u16>) {
+        frame.push(self);
+    }
+
+    fn get(frame: &mut Cursor) -> Self {
+        frame.word()
+    }
+
+    fn value(self) -> u64 {
+        self as u64
+    }
+}
+
+impl Word for u32 {
+    fn put(self, frame: &mut Vec<u16>) {
+        frame.push(self as u16);
+        frame.push((self >> 16) as u16);
+    }
+
+    fn get(frame: &mut Cursor) -> Self {
+        let low = frame.word() as u32;
+        low + ((frame.word() as u32) << 16)
+    }
+
+    fn value(self) -> u64 {
+        self as u64
+    }
+}
+
+/// One call, with all that it is lent.
+#[derive(Clone, Debug, PartialEq, Eq)]
+pub enum Call {
+    Build {
+        head: Head,
+        start: u32,
+        operators: Part<u16>,
+        rides: Part<u16>,
+        stamps: Part<u32>,
+        index: Part<u16>,
+    },
+    Query {
+        head: Head,
+        alpha: u16,
+        beta: u16,
+        index: Part<u16>,
+        marks: Part<u16>,
+    },
+    Peel {
+        head: Head,
+        alpha: u16,
+        beta: u16,
+        steps: u16,
+        operators: Part<u16>,
+        rides: Part<u16>,
+        marks: Part<u16>,
+    },
+    Message {
+        head: Head,
+        message: Message,
+        operators: Part<u16>,
+        rides: Part<u16>,
+        stamps: Part<u32>,
+        index: Part<u16>,
+    },
+    Messages {
+        head: Head,
+        messages: Vec<Message>,
+        operators: Part<u16>,
+        rides: Part<u16>,
+        stamps: Part<u32>,
+        index: Part<u16>,
+        answers: Part<u16>,
+    },
+}
+
+// Writing
+
+fn put_head(frame: &mut Vec<u16>, head: Head) {
+    frame.extend([head.operators, head.rides, head.pairs]);
+}
+
+fn put_message(frame: &mut Vec<u16>, message: Message) {
+    frame.extend([message.kind, message.operator, message.ride]);
+    message.stamp.put(frame);
+}
+
+fn put_part<T: Word>(frame: &mut Vec<u16>, part: &Part<T>) {
+    let mode = part.fill.is_some() as u16 + 2 * !part.words.is_empty() as u16;
+    frame.extend([part.len as u16, mode]);
+    if let Some(word) = part.fill {
+        word.put(frame);
+    }
+    if !part.words.is_empty() {
+        frame.extend([part.from as u16, part.words.len() as u16]);
+        for word in &part.words {
+            word.put(frame);
+        }
+    }
+}
+
+impl Call {
+    /// The words of the call's frame, after the count.
+    fn words(&self) -> Vec<u16> {
+        let mut frame = Vec::new();
+        match self {
+            Call::Build { head, start, operators, rides, stamps, index } => {
+                frame.push(BUILD);
+                put_head(&mut frame, *head);
+                start.put(&mut frame);
+                put_part(&mut frame, operators);
+                put_part(&mut frame, rides);
+                put_part(&mut frame, stamps);
+                put_part(&mut frame, index);
+            }
+            Call::Query { head, alpha, beta, index, marks } => {
+                frame.push(QUERY);
+                put_head(&mut frame, *head);
+                frame.extend([*alpha, *beta]);
+                put_part(&mut frame, index);
+                put_part(&mut frame, marks);
+            }
+            Call::Peel { head, alpha, beta, steps, operators, rides, marks } => {
+                frame.push(PEEL);
+                put_head(&mut frame, *head);
+                frame.extend([*alpha, *beta, *steps]);
+                put_part(&mut frame, operators);
+                put_part(&mut frame, rides);
+                put_part(&mut frame, marks);
+            }
+            Call::Message { head, message, operators, rides, stamps, index } => {
+                frame.push(MESSAGE);
+                put_head(&mut frame, *head);
+                put_message(&mut frame, *message);
+                put_part(&mut frame, operators);
+                put_part(&mut frame, rides);
+                put_part(&mut frame, stamps);
+                put_part(&mut frame, index);
+            }
+            Call::Messages { head, messages, operators, rides, stamps, index, answers } => {
+                frame.push(MESSAGES);
+                put_head(&mut frame, *head);
+                frame.push(messages.len() as u16);
+                for message in messages {
+                    put_message(&mut frame, *message);
+                }
+                put_part(&mut frame, operators);
+                put_part(&mut frame, rides);
+                put_part(&mut frame, stamps);
+                put_part(&mut frame, index);
+                put_part(&mut frame, answers);
+            }
+        }
+        frame
+    }
+
+    /// Appends the call's frame to a stream.
+    pub fn write(&self, stream: &mut Vec<u8>) {
+        let words = self.words();
+        let count = u16::try_from(words.len()).expect("a frame has at most 65535 words");
+        for word in std::iter::once(count).chain(words) {
+            stream.extend(word.to_le_bytes());
+        }
+    }
+}
+
+/// Ends a stream.
+pub fn write_end(stream: &mut Vec<u8>) {
+    stream.extend(0u16.to_le_bytes());
+}
+
+// Replaying
+
+/// The calls that a stream is replayed on.
+pub trait Board {
+    fn build(
+        &mut self,
+        head: Head,
+        operators: &mut [u16],
+        rides: &mut [u16],
+        start: u32,
+        stamps: &mut [u32],
+        index: &mut [u16],
+    ) -> u16;
+    fn query(&mut self, head: Head, index: &[u16], alpha: u16, beta: u16, marks: &mut [u16]) -> Counts;
+    #[allow(clippy::too_many_arguments)]
+    fn peel(
+        &mut self,
+        head: Head,
+        operators: &[u16],
+        rides: &[u16],
+        marks: &mut [u16],
+        alpha: u16,
+        beta: u16,
+        steps: u16,
+    ) -> Peeled;
+    fn message(
+        &mut self,
+        head: &mut Head,
+        operators: &mut [u16],
+        rides: &mut [u16],
+        stamps: &mut [u32],
+        index: &mut [u16],
+        message: Message,
+    ) -> Answer;
+    #[allow(clippy::too_many_arguments)]
+    fn messages(
+        &mut self,
+        head: &mut Head,
+        operators: &mut [u16],
+        rides: &mut [u16],
+        stamps: &mut [u32],
+        index: &mut [u16],
+        messages: &[Message],
+        answers: &mut [u16],
+    ) -> u16;
+}
+
+/// The calls of this package.
+pub struct Reference;
+
+impl Board for Reference {
+    fn build(
+        &mut self,
+        head: Head,
+        operators: &mut [u16],
+        rides: &mut [u16],
+        start: u32,
+        stamps: &mut [u32],
+        index: &mut [u16],
+    ) -> u16 {
+        crate::build(head, operators, rides, start, stamps, index)
+    }
+
+    fn query(&mut self, head: Head, index: &[u16], alpha: u16, beta: u16, marks: &mut [u16]) -> Counts {
+        crate::query(head, index, alpha, beta, marks)
+    }
+
+    fn peel(
+        &mut self,
+        head: Head,
+        operators: &[u16],
+        rides: &[u16],
+        marks: &mut [u16],
+        alpha: u16,
+        beta: u16,
+        steps: u16,
+    ) -> Peeled {
+        crate::peel(head, operators, rides, marks, alpha, beta, steps)
+    }
+
+    fn message(
+        &mut self,
+        head: &mut Head,
+        operators: &mut [u16],
+        rides: &mut [u16],
+        stamps: &mut [u32],
+        index: &mut [u16],
+        message: Message,
+    ) -> Answer {
+        crate::message(head, operators, rides, stamps, index, message)
+    }
+
+    fn messages(
+        &mut self,
+        head: &mut Head,
+        operators: &mut [u16],
+        rides: &mut [u16],
+        stamps: &mut [u32],
+        index: &mut [u16],
+        messages: &[Message],
+        answers: &mut [u16],
+    ) -> u16 {
+        crate::messages(head, operators, rides, stamps, index, messages, answers)
+    }
+}
+
+/// The memory that calls are lent parts of. It stays from call to call.
+pub struct Memory {
+    pub operators: Vec<u16>,
+    pub rides: Vec<u16>,
+    pub stamps: Vec<u32>,
+    pub index: Vec<u16>,
+    pub marks: Vec<u16>,
+    pub answers: Vec<u16>,
+}
+
+impl Default for Memory {
+    fn default() -> Self {
+        Memory {
+            operators: vec![0; PAIR_PLACES],
+            rides: vec![0; PAIR_PLACES],
+            stamps: vec![0; PAIR_PLACES],
+            index: vec![0; INDEX_PLACES],
+            marks: vec![0; MARK_PLACES],
+            answers: vec![0; ANSWER_PLACES],
+        }
+    }
+}
+
+/// The first `len` places of a memory part, set as a frame says.
+fn lend<'a, T: Word>(memory: &'a mut [T], part: &Part<T>) -> &'a mut [T] {
+    let lent = &mut memory[..part.len];
+    if let Some(word) = part.fill {
+        lent.fill(word);
+    }
+    lent[part.from..part.from + part.words.len()].copy_from_slice(&part.words);
+    lent
+}
+
+/// What a call answered: its numbers, the first of them document 01's, and the checksum of all that it was lent.
+#[derive(Clone, Debug, PartialEq, Eq)]
+pub struct Outcome {
+    pub numbers: Vec<u16>,
+    pub checksum: u64,
+}
+
+impl std::fmt::Display for Outcome {
+    fn fmt(&self, f: &mut std::fmt::Formatter) -> std::fmt::Result {
+        for number in &self.numbers {
+            write!(f, "{number} ")?;
+        }
+        write!(f, "{}", self.checksum)
+    }
+}
+
+fn checksum<T: Word>(before: u64, words: &[T]) -> u64 {
+    words.iter().fold(before, |sum, word| (sum * 65_599 + word.value()) % 2_147_483_647)
+}
+
+fn head_checksum(head: Head) -> u64 {
+    checksum(0, &[head.operators, head.rides, head.pairs])
+}
+
+impl Call {
+    /// Makes the call. Gives what it answered, and the head that it left.
+    pub fn run(&self, board: &mut impl Board, memory: &mut Memory) -> (Outcome, Head) {
+        match self {
+            Call::Build { head, start, operators, rides, stamps, index } => {
+                let operators = lend(&mut memory.operators, operators);
+                let rides = lend(&mut memory.rides, rides);
+                let stamps = lend(&mut memory.stamps, stamps);
+                let index = lend(&mut memory.index, index);
+                let code = board.build(*head, operators, rides, *start, stamps, index);
+                let sum = checksum(checksum(checksum(checksum(0, operators), rides), stamps), index);
+                (Outcome { numbers: vec![code], checksum: sum }, *head)
+            }
+            Call::Query { head, alpha, beta, index, marks } => {
+                let index = lend(&mut memory.index, index);
+                let marks = lend(&mut memory.marks, marks);
+                let counts = board.query(*head, index, *alpha, *beta, marks);
+                let numbers = vec![counts.code, counts.operators, counts.rides];
+                (Outcome { numbers, checksum: checksum(checksum(0, index), marks) }, *head)
+            }
+            Call::Peel { head, alpha, beta, steps, operators, rides, marks } => {
+                let operators = lend(&mut memory.operators, operators);
+                let rides = lend(&mut memory.rides, rides);
+                let marks = lend(&mut memory.marks, marks);
+                let peeled = board.peel(*head, operators, rides, marks, *alpha, *beta, *steps);
+                let numbers = vec![peeled.code, peeled.settled, peeled.steps];
+                (Outcome { numbers, checksum: checksum(checksum(checksum(0, operators), rides), marks) }, *head)
+            }
+            Call::Message { head, message, operators, rides, stamps, index } => {
+                let mut head = *head;
+                let operators = lend(&mut memory.operators, operators);
+                let rides = lend(&mut memory.rides, rides);
+                let stamps = lend(&mut memory.stamps, stamps);
+                let index = lend(&mut memory.index, index);
+                let answer = board.message(&mut head, operators, rides, stamps, index, *message);
+                let sum = checksum(checksum(checksum(checksum(head_checksum(head), operators), rides), stamps), index);
+                (Outcome { numbers: vec![answer.code, answer.differ], checksum: sum }, head)
+            }
+            Call::Messages { head, messages, operators, rides, stamps, index, answers } => {
+                let mut head = *head;
+                let operators = lend(&mut memory.operators, operators);
+                let rides = lend(&mut memory.rides, rides);
+                let stamps = lend(&mut memory.stamps, stamps);
+                let index = lend(&mut memory.index, index);
+                let answers = lend(&mut memory.answers, answers);
+                let code = board.messages(&mut head, operators, rides, stamps, index, messages, answers);
+                let sum = checksum(checksum(checksum(checksum(head_checksum(head), operators), rides), stamps), index);
+                (Outcome { numbers: vec![code], checksum: checksum(sum, answers) }, head)
+            }
+        }
+    }
+}
+
+/// Reads words one after another.
+pub struct Cursor<'a> {
+    bytes: &'a [u8],
+}
+
+impl<'a> Cursor<'a> {
+    pub fn new(bytes: &'a [u8]) -> Self {
+        Cursor { bytes }
+    }
+
+    fn word(&mut self) -> u16 {
+        let word = u16::from_le_bytes([self.bytes[0], self.bytes[1]]);
+        self.bytes = &self.bytes[2..];
+        word
+    }
+
+    fn head(&mut self) -> Head {
+        Head { operators: self.word(), rides: self.word(), pairs: self.word() }
+    }
+
+    fn message(&mut self) -> Message {
+        Message { kind: self.word(), operator: self.word(), ride: self.word(), stamp: u32::get(self) }
+    }
+
+    fn part<T: Word + Clone + Default>(&mut self) -> Part<T> {
+        let mut part = Part { len: self.word() as usize, ..Part::default() };
+        let mode = self.word();
+        if mode % 2 == 1 {
+            part.fill = Some(T::get(self));
+        }
+        if mode / 2 == 1 {
+            part.from = self.word() as usize;
+            let count = self.word();
+            part.words = (0..count).map(|_| T::get(self)).collect();
+        }
+        part
+    }
+
+    /// The next call, or none at the stream's end.
+    pub fn call(&mut self) -> Option<Call> {
+        if self.word() == 0 {
+            return None;
+        }
+        Some(match self.word() {
+            BUILD => Call::Build {
+                head: self.head(),
+                start: u32::get(self),
+                operators: self.part(),
+                rides: self.part(),
+                stamps: self.part(),
+                index: self.part(),
+            },
+            QUERY => Call::Query {
+                head: self.head(),
+                alpha: self.word(),
+                beta: self.word(),
+                index: self.part(),
+                marks: self.part(),
+            },
+            PEEL => Call::Peel {
+                head: self.head(),
+                alpha: self.word(),
+                beta: self.word(),
+                steps: self.word(),
+                operators: self.part(),
+                rides: self.part(),
+                marks: self.part(),
+            },
+            MESSAGE => Call::Message {
+                head: self.head(),
+                message: self.message(),
+                operators: self.part(),
+                rides: self.part(),
+                stamps: self.part(),
+                index: self.part(),
+            },
+            MESSAGES => {
+                let head = self.head();
+                let count = self.word();
+                Call::Messages {
+                    head,
+                    messages: (0..count).map(|_| self.message()).collect(),
+                    operators: self.part(),
+                    rides: self.part(),
+                    stamps: self.part(),
+                    index: self.part(),
+                    answers: self.part(),
+                }
+            }
+            kind => panic!("a frame of kind {kind}"),
+        })
+    }
+}
+
+/// Replays a whole stream and gives a line for each call.
+pub fn replay(stream: &[u8], board: &mut impl Board) -> String {
+    let mut memory = Memory::default();
+    let mut cursor = Cursor::new(stream);
+    let mut text = String::new();
+    while let Some(call) = cursor.call() {
+        let (outcome, _) = call.run(board, &mut memory);
+        text += &format!("{outcome}\n");
+    }
+    text
+}
+
+/// Replays a stream of inputs of the program `cover`: the outputs, one after another.
+pub fn replay_cover(stream: &[u8], cover: impl Fn(&[u8]) -> Vec<u8>) -> Vec<u8> {
+    let mut rest = stream;
+    let mut output = Vec::new();
+    while let [low, high, after @ ..] = rest {
+        let (input, next) = after.split_at(u16::from_le_bytes([*low, *high]) as usize);
+        output.extend(cover(input));
+        rest = next;
+    }
+    output
+}

@@ -1,0 +1,438 @@
+//! The board of document 01, written again from that document and Definition 2.1 of document 000 alone, to compare
+//! the proved library with. Where a slow way is the clearer one it is taken: a cover is found by repeated removal, a
+//! level by trying every β.
+
+pub mod frames;
+
+use std::collections::BTreeSet;
+use std::io::Write;
+
+/// Head: the sizes, and the number of pairs.
+#[derive(Clone, Copy, Debug, PartialEq, Eq)]
+#[repr(C)]
+pub struct Head {
+    pub operators: u16,
+    pub rides: u16,
+    pub pairs: u16,
+}
+
+/// What a query answers: document 01's number, and how many operators and rides it marked.
+#[derive(Clone, Copy, Debug, PartialEq, Eq)]
+#[repr(C)]
+pub struct Counts {
+    pub code: u16,
+    pub operators: u16,
+    pub rides: u16,
+}
+
+/// What a peel answers: document 01's number, settled (1) or unsettled (0), and the steps taken.
+#[derive(Clone, Copy, Debug, PartialEq, Eq)]
+#[repr(C)]
+pub struct Peeled {
+    pub code: u16,
+    pub settled: u16,
+    pub steps: u16,
+}
+
+pub const GRANT: u16 = 1;
+pub const WITHDRAWAL: u16 = 2;
+
+/// Message: kind 1 is a grant, 2 a withdrawal.
+#[derive(Clone, Copy, Debug, PartialEq, Eq)]
+#[repr(C)]
+pub struct Message {
+    pub kind: u16,
+    pub operator: u16,
+    pub ride: u16,
+    pub stamp: u32,
+}
+
+/// What a message answers: document 01's number, and how many index words differ before and after.
+#[derive(Clone, Copy, Debug, PartialEq, Eq)]
+#[repr(C)]
+pub struct Answer {
+    pub code: u16,
+    pub differ: u16,
+}
+
+impl Head {
+    /// The places of a pair array, and of the stamps.
+    pub fn places(self) -> usize {
+        self.operators as usize * self.rides as usize
+    }
+
+    /// The words of one index row, and the marks: an operator or a ride each.
+    pub fn nodes(self) -> usize {
+        self.operators as usize + self.rides as usize
+    }
+
+    /// The words of the index.
+    pub fn words(self) -> usize {
+        self.rides as usize * self.nodes()
+    }
+}
+
+/// The pairs that are listed, as a set.
+type Pairs = BTreeSet<(u16, u16)>;
+
+// Refusals
+
+/// The lowest number whose test applies, or 0. A test is tried only where none before it applies.
+fn lowest(tests: &[(u16, &dyn Fn() -> bool)]) -> u16 {
+    tests.iter().find(|test| test.1()).map_or(0, |test| test.0)
+}
+
+/// Number 5: one of the listed pairs is out of range, or they are not strictly ascending.
+fn disordered(head: Head, operators: &[u16], rides: &[u16]) -> bool {
+    let pairs = head.pairs as usize;
+    let listed: Vec<(u16, u16)> = operators[..pairs].iter().copied().zip(rides[..pairs].iter().copied()).collect();
+    let outside = listed.iter().any(|&(operator, ride)| operator >= head.operators || ride >= head.rides);
+    let ascending = listed.windows(2).all(|two| two[0] < two[1]);
+    outside || !ascending
+}
+
+/// The pairs of accepted pair arrays.
+fn listed(head: Head, operators: &[u16], rides: &[u16]) -> Pairs {
+    let pairs = head.pairs as usize;
+    operators[..pairs].iter().copied().zip(rides[..pairs].iter().copied()).collect()
+}
+
+// Covers and levels
+
+/// A set of operators, or of rides.
+#[derive(Clone, Copy, Default, PartialEq, Eq)]
+struct Set([u64; 4]);
+
+impl Set {
+    fn of(numbers: impl Iterator<Item = usize>) -> Self {
+        let mut set = Set::default();
+        for number in numbers {
+            set.0[number / 64] |= 1 << (number % 64);
+        }
+        set
+    }
+
+    fn has(self, number: usize) -> bool {
+        self.0[number / 64] >> (number % 64) & 1 == 1
+    }
+
+    fn is_empty(self) -> bool {
+        self == Set::default()
+    }
+
+    fn numbers(self) -> impl Iterator<Item = usize> {
+        (0..256).filter(move |number| self.has(*number))
+    }
+
+    /// How many numbers are in both sets.
+    fn common(self, other: Set) -> usize {
+        self.0.iter().zip(other.0).map(|(a, b)| (a & b).count_ones() as usize).sum()
+    }
+}
+
+/// Who is cleared for what: for each operator its rides, and for each ride its operators.
+struct Clearances {
+    rides_of: Vec<Set>,
+    operators_of: Vec<Set>,
+}
+
+impl Clearances {
+    fn new(head: Head, pairs: &Pairs) -> Self {
+        let rides_of = |o: u16| Set::of(pairs.iter().filter(|pair| pair.0 == o).map(|pair| pair.1 as usize));
+        let operators_of = |r: u16| Set::of(pairs.iter().filter(|pair| pair.1 == r).map(|pair| pair.0 as usize));
+        Clearances {
+            rides_of: (0..head.operators).map(rides_of).collect(),
+            operators_of: (0..head.rides).map(operators_of).collect(),
+        }
+    }
+}
+
+/// Definition 2.1: the largest set where each operator has at least alpha rides of the set, and each ride at least
+/// beta operators of it. Whoever falls short goes, again and again, until nobody does.
+fn core(clearances: &Clearances, alpha: usize, beta: usize) -> (Set, Set) {
+    let mut operators = Set::of(0..clearances.rides_of.len());
+    let mut rides = Set::of(0..clearances.operators_of.len());
+    loop {
+        let left = (
+            Set::of(operators.numbers().filter(|&o| clearances.rides_of[o].common(rides) >= alpha)),
+            Set::of(rides.numbers().filter(|&r| clearances.operators_of[r].common(operators) >= beta)),
+        );
+        if left == (operators, rides) {
+            return left;
+        }
+        (operators, rides) = left;
+    }
+}
+
+/// Row alpha: the level of each operator, then of each ride, the largest beta whose cover (alpha, beta) holds it. Where
+/// a cover is empty, so is that of each larger beta.
+fn row(clearances: &Clearances, alpha: usize) -> Vec<u16> {
+    let mut operators = vec![0; clearances.rides_of.len()];
+    let mut rides = vec![0; clearances.operators_of.len()];
+    for beta in 1.. {
+        let set = core(clearances, alpha, beta);
+        if set.0.is_empty() && set.1.is_empty() {
+            break;
+        }
+        set.0.numbers().for_each(|o| operators[o] = beta as u16);
+        set.1.numbers().for_each(|r| rides[r] = beta as u16);
+    }
+    operators.extend(rides);
+    operators
+}
+
+/// The index: row 1 to row rides.
+fn index_of(head: Head, pairs: &Pairs) -> Vec<u16> {
+    let clearances = Clearances::new(head, pairs);
+    (1..=head.rides as usize).flat_map(|alpha| row(&clearances, alpha)).collect()
+}
+
+/// Writes the pairs in ascending order, and zeros from there to the arrays' end.
+fn write_pairs(head: Head, pairs: &Pairs, operators: &mut [u16], rides: &mut [u16]) {
+    operators[..head.places()].fill(0);
+    rides[..head.places()].fill(0);
+    for (place, &(operator, ride)) in pairs.iter().enumerate() {
+        operators[place] = operator;
+        rides[place] = ride;
+    }
+}
+
+// The calls
+
+pub fn build(
+    head: Head,
+    operators: &mut [u16],
+    rides: &mut [u16],
+    start: u32,
+    stamps: &mut [u32],
+    index: &mut [u16],
+) -> u16 {
+    let code = lowest(&[
+        (1, &|| head.operators > 200),
+        (2, &|| head.rides > 60),
+        (3, &|| {
+            operators.len() < head.places()
+                || rides.len() < head.places()
+                || stamps.len() < head.places()
+                || index.len() < head.words()
+        }),
+        (4, &|| head.pairs as usize > head.places()),
+        (5, &|| disordered(head, operators, rides)),
+        (9, &|| start == 0),
+    ]);
+    if code != 0 {
+        return code;
+    }
+    let pairs = listed(head, operators, rides);
+    write_pairs(head, &pairs, operators, rides);
+    stamps[..head.places()].fill(0);
+    for &(operator, ride) in &pairs {
+        stamps[stamp_place(head, operator, ride)] = start;
+    }
+    index[..head.words()].copy_from_slice(&index_of(head, &pairs));
+    0
+}
+
+/// Where the stamp of a pair is.
+fn stamp_place(head: Head, operator: u16, ride: u16) -> usize {
+    operator as usize * head.rides as usize + ride as usize
+}
+
+pub fn query(head: Head, index: &[u16], alpha: u16, beta: u16, marks: &mut [u16]) -> Counts {
+    let code = lowest(&[
+        (1, &|| head.operators > 200),
+        (2, &|| head.rides > 60),
+        (3, &|| index.len() < head.words() || marks.len() < head.nodes()),
+        (11, &|| alpha == 0 || beta == 0),
+    ]);
+    if code != 0 {
+        return Counts { code, operators: 0, rides: 0 };
+    }
+    for node in 0..head.nodes() {
+        let is_in = alpha <= head.rides && index[(alpha as usize - 1) * head.nodes() + node] >= beta;
+        marks[node] = is_in as u16;
+    }
+    let (operators, rides) = marks[..head.nodes()].split_at(head.operators as usize);
+    Counts { code: 0, operators: operators.iter().sum(), rides: rides.iter().sum() }
+}
+
+pub fn peel(
+    head: Head,
+    operators: &[u16],
+    rides: &[u16],
+    marks: &mut [u16],
+    alpha: u16,
+    beta: u16,
+    steps: u16,
+) -> Peeled {
+    let code = lowest(&[
+        (1, &|| head.operators > 200),
+        (2, &|| head.rides > 60),
+        (3, &|| operators.len() < head.places() || rides.len() < head.places() || marks.len() < head.nodes()),
+        (4, &|| head.pairs as usize > head.places()),
+        (5, &|| disordered(head, operators, rides)),
+        (11, &|| alpha == 0 || beta == 0),
+        (12, &|| marks[..head.nodes()].iter().any(|mark| *mark > 1)),
+    ]);
+    if code != 0 {
+        return Peeled { code, settled: 0, steps: 0 };
+    }
+    let clearances = Clearances::new(head, &listed(head, operators, rides));
+    let mut taken = 0;
+    loop {
+        match first_short(head, &clearances, marks, alpha as usize, beta as usize) {
+            None => return Peeled { code: 0, settled: 1, steps: taken },
+            Some(_) if taken == steps => return Peeled { code: 0, settled: 0, steps: taken },
+            Some(place) => marks[place] = 0,
+        }
+        taken += 1;
+    }
+}
+
+/// The place in the marks of the lowest-numbered marked operator with fewer than alpha marked rides; if there is none,
+/// of the lowest-numbered marked ride with fewer than beta marked operators.
+fn first_short(head: Head, clearances: &Clearances, marks: &[u16], alpha: usize, beta: usize) -> Option<usize> {
+    let (n, m) = (head.operators as usize, head.rides as usize);
+    let operators = Set::of((0..n).filter(|&o| marks[o] == 1));
+    let rides = Set::of((0..m).filter(|&r| marks[n + r] == 1));
+    let operator = operators.numbers().find(|&o| clearances.rides_of[o].common(rides) < alpha);
+    let ride = rides.numbers().find(|&r| clearances.operators_of[r].common(operators) < beta);
+    operator.or(ride.map(|r| n + r))
+}
+
+/// The lowest of 1 to 6 that applies to a board that is lent to a message, or 0.
+fn board_refusal(
+    head: Head,
+    operators: &[u16],
+    rides: &[u16],
+    stamps: &[u32],
+    index: &[u16],
+    others_short: bool,
+) -> u16 {
+    lowest(&[
+        (1, &|| head.operators > 200),
+        (2, &|| head.rides > 60),
+        (3, &|| {
+            operators.len() < head.places()
+                || rides.len() < head.places()
+                || stamps.len() < head.places()
+                || index.len() < head.words()
+                || others_short
+        }),
+        (4, &|| head.pairs as usize > head.places()),
+        (5, &|| disordered(head, operators, rides)),
+        (6, &|| listed(head, operators, rides).iter().any(|&(o, r)| stamps[stamp_place(head, o, r)] == 0)),
+    ])
+}
+
+pub fn message(
+    head: &mut Head,
+    operators: &mut [u16],
+    rides: &mut [u16],
+    stamps: &mut [u32],
+    index: &mut [u16],
+    message: Message,
+) -> Answer {
+    let sizes = *head;
+    let refusal = board_refusal(sizes, operators, rides, stamps, index, false);
+    let pair = (message.operator, message.ride);
+    let code = lowest(&[
+        (refusal, &|| refusal != 0),
+        (7, &|| message.kind != GRANT && message.kind != WITHDRAWAL),
+        (8, &|| message.operator >= sizes.operators || message.ride >= sizes.rides),
+        (9, &|| message.stamp == 0),
+        (10, &|| {
+            let last = stamps[stamp_place(sizes, pair.0, pair.1)];
+            let last_kind = if listed(sizes, operators, rides).contains(&pair) { GRANT } else { WITHDRAWAL };
+            last != 0 && !is_later((message.stamp, message.kind), (last, last_kind))
+        }),
+    ]);
+    if code != 0 {
+        return Answer { code, differ: 0 };
+    }
+    let mut pairs = listed(sizes, operators, rides);
+    if message.kind == GRANT {
+        pairs.insert(pair);
+    } else {
+        pairs.remove(&pair);
+    }
+    stamps[stamp_place(sizes, pair.0, pair.1)] = message.stamp;
+    write_pairs(sizes, &pairs, operators, rides);
+    head.pairs = pairs.len() as u16;
+    let levels = index_of(sizes, &pairs);
+    let differ = levels.iter().zip(&*index).filter(|(new, old)| new != old).count() as u16;
+    index[..sizes.words()].copy_from_slice(&levels);
+    Answer { code: 0, differ }
+}
+
+/// Of two messages for one pair, given as stamp and kind: the first is later than the second. At equal stamps a
+/// withdrawal is later than a grant.
+fn is_later(first: (u32, u16), second: (u32, u16)) -> bool {
+    first.0 > second.0 || (first.0 == second.0 && first.1 == WITHDRAWAL && second.1 == GRANT)
+}
+
+pub fn messages(
+    head: &mut Head,
+    operators: &mut [u16],
+    rides: &mut [u16],
+    stamps: &mut [u32],
+    index: &mut [u16],
+    messages: &[Message],
+    answers: &mut [u16],
+) -> u16 {
+    let code = board_refusal(*head, operators, rides, stamps, index, answers.len() < messages.len());
+    if code != 0 {
+        return code;
+    }
+    for (place, one) in messages.iter().enumerate() {
+        answers[place] = message(head, operators, rides, stamps, index, *one).code;
+    }
+    0
+}
+
+/// The program `cover`: from its whole input to its whole output.
+pub fn cover(input: &[u8]) -> Vec<u8> {
+    let mut output = Vec::new();
+    match cover_checked(input, &mut output) {
+        0 => output,
+        code => format!("refused {code}\n").into_bytes(),
+    }
+}
+
+fn cover_checked(input: &[u8], output: &mut Vec<u8>) -> u16 {
+    let word = |place: usize| u16::from_le_bytes([input[2 * place], input[2 * place + 1]]);
+    if input.len() < 6 {
+        return 13;
+    }
+    let head = Head { operators: word(0), rides: word(1), pairs: word(2) };
+    let pairs = head.pairs as usize;
+    let operators = || (3..3 + pairs).map(word).collect::<Vec<u16>>();
+    let rides = || (3 + pairs..3 + 2 * pairs).map(word).collect::<Vec<u16>>();
+    let (alpha, beta) = (|| word(3 + 2 * pairs), || word(4 + 2 * pairs));
+    let code = lowest(&[
+        (1, &|| head.operators > 200),
+        (2, &|| head.rides > 60),
+        (4, &|| pairs > head.places()),
+        (13, &|| input.len() != 10 + 4 * pairs),
+        (5, &|| disordered(head, &operators(), &rides())),
+        (11, &|| alpha() == 0 || beta() == 0),
+    ]);
+    if code != 0 {
+        return code;
+    }
+    let (alpha, beta) = (alpha(), beta());
+    let clearances = Clearances::new(head, &listed(head, &operators(), &rides()));
+    let (operators, rides) = core(&clearances, alpha as usize, beta as usize);
+    let levels = row(&clearances, alpha as usize);
+    writeln!(output, "cover {alpha} {beta} {} {}", operators.numbers().count(), rides.numbers().count()).unwrap();
+    for number in operators.numbers() {
+        writeln!(output, "operator {number} {}", levels[number]).unwrap();
+    }
+    for number in rides.numbers() {
+        writeln!(output, "ride {number} {}", levels[head.operators as usize + number]).unwrap();
+    }
+    0
+}
+
+#[cfg(test)]
+mod tests;

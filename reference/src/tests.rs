@@ -1,0 +1,269 @@
+//! The samples of document 01, and the definitions against what they say of every set.
+
+use super::*;
+
+/// Memory for a board, longer by two places in each part than it needs.
+struct Store {
+    head: Head,
+    operators: Vec<u16>,
+    rides: Vec<u16>,
+    stamps: Vec<u32>,
+    index: Vec<u16>,
+}
+
+impl Store {
+    fn new(operators: u16, rides: u16, pairs: &[(u16, u16)]) -> Self {
+        let head = Head { operators, rides, pairs: pairs.len() as u16 };
+        let mut store = Store {
+            head,
+            operators: vec![7; head.places() + 2],
+            rides: vec![7; head.places() + 2],
+            stamps: vec![7; head.places() + 2],
+            index: vec![7; head.words() + 2],
+        };
+        for (place, pair) in pairs.iter().enumerate() {
+            store.operators[place] = pair.0;
+            store.rides[place] = pair.1;
+        }
+        store
+    }
+
+    fn build(&mut self, start: u32) -> u16 {
+        build(self.head, &mut self.operators, &mut self.rides, start, &mut self.stamps, &mut self.index)
+    }
+
+    fn query(&self, alpha: u16, beta: u16) -> (Counts, Vec<u16>) {
+        let mut marks = vec![9; self.head.nodes()];
+        let counts = query(self.head, &self.index, alpha, beta, &mut marks);
+        (counts, marks)
+    }
+
+    fn peel(&self, marks: &mut [u16], alpha: u16, beta: u16, steps: u16) -> Peeled {
+        peel(self.head, &self.operators, &self.rides, marks, alpha, beta, steps)
+    }
+
+    fn message(&mut self, kind: u16, operator: u16, ride: u16, stamp: u32) -> Answer {
+        let one = Message { kind, operator, ride, stamp };
+        message(&mut self.head, &mut self.operators, &mut self.rides, &mut self.stamps, &mut self.index, one)
+    }
+
+    fn row(&self, alpha: usize) -> &[u16] {
+        &self.index[(alpha - 1) * self.head.nodes()..alpha * self.head.nodes()]
+    }
+}
+
+const SAMPLE: [(u16, u16); 7] = [(0, 0), (0, 1), (1, 0), (1, 1), (2, 1), (2, 2), (3, 2)];
+
+/// The board of document 01's samples.
+fn sample(start: u32) -> Store {
+    let mut store = Store::new(4, 3, &SAMPLE);
+    assert_eq!(store.build(start), 0);
+    store
+}
+
+#[test]
+fn rows() {
+    let board = sample(1);
+    assert_eq!(board.row(1), [3, 3, 3, 2, 2, 3, 2]);
+    assert_eq!(board.row(2), [2, 2, 1, 0, 2, 2, 1]);
+    assert_eq!(board.row(3), [0; 7]);
+    assert_eq!(board.index[21..], [7, 7]);
+    assert_eq!(board.operators, [0, 0, 1, 1, 2, 2, 3, 0, 0, 0, 0, 0, 7, 7]);
+    assert_eq!(board.rides, [0, 1, 0, 1, 1, 2, 2, 0, 0, 0, 0, 0, 7, 7]);
+    assert_eq!(board.stamps, [1, 1, 0, 1, 1, 0, 0, 1, 1, 0, 0, 1, 7, 7]);
+}
+
+#[test]
+fn covers() {
+    let board = sample(1);
+    assert_eq!(board.query(1, 3), (Counts { code: 0, operators: 3, rides: 1 }, vec![1, 1, 1, 0, 0, 1, 0]));
+    assert_eq!(board.query(1, 4), (Counts { code: 0, operators: 0, rides: 0 }, vec![0; 7]));
+    assert_eq!(board.query(4, 1), (Counts { code: 0, operators: 0, rides: 0 }, vec![0; 7]));
+    assert_eq!(board.query(0, 1), (Counts { code: 11, operators: 0, rides: 0 }, vec![9; 7]));
+}
+
+#[test]
+fn peels() {
+    let board = sample(1);
+    let mut marks = [1; 7];
+    for (steps, after) in [[1, 1, 1, 0, 1, 1, 1], [1, 1, 1, 0, 1, 1, 0], [1, 1, 0, 0, 1, 1, 0]].iter().enumerate() {
+        let mut marks = [1; 7];
+        let settled = (steps == 2) as u16;
+        let steps = steps as u16 + 1;
+        assert_eq!(board.peel(&mut marks, 2, 2, steps), Peeled { code: 0, settled, steps });
+        assert_eq!(marks, *after);
+    }
+    assert_eq!(board.peel(&mut marks, 2, 2, 65535), Peeled { code: 0, settled: 1, steps: 3 });
+    assert_eq!(board.peel(&mut marks, 2, 2, 0), Peeled { code: 0, settled: 1, steps: 0 });
+    assert_eq!(marks, [1, 1, 0, 0, 1, 1, 0]);
+}
+
+#[test]
+fn granted() {
+    let mut board = sample(1);
+    assert_eq!(board.message(GRANT, 3, 1, 2), Answer { code: 0, differ: 8 });
+    assert_eq!(board.row(1), [4, 4, 4, 4, 2, 4, 2]);
+    assert_eq!(board.row(2), [2; 7]);
+    assert_eq!(board.row(3), [0; 7]);
+    assert_eq!(board.head.pairs, 8);
+}
+
+#[test]
+fn built_at_stamp_5() {
+    let mut board = sample(5);
+    assert_eq!(board.message(GRANT, 0, 0, 5), Answer { code: 10, differ: 0 });
+    assert_eq!(board.message(WITHDRAWAL, 0, 0, 5).code, 0);
+    assert_eq!(board.head.pairs, 6);
+    assert_eq!(board.message(GRANT, 0, 0, 6).code, 0);
+    assert_eq!(board.head.pairs, 7);
+}
+
+#[test]
+fn sizes() {
+    for (operators, rides, code) in [(200, 60, 0), (201, 60, 1), (200, 61, 2), (201, 61, 1)] {
+        let mut board = Store::new(operators, rides, &[(3, 4)]);
+        assert_eq!(board.build(1), code);
+    }
+}
+
+#[test]
+fn an_old_grant_stays_away() {
+    let mut board = sample(5);
+    assert_eq!(board.message(WITHDRAWAL, 3, 0, 9), Answer { code: 0, differ: 0 });
+    assert_eq!(board.message(GRANT, 3, 0, 9).code, 10);
+    assert_eq!(board.message(GRANT, 3, 0, 8).code, 10);
+    assert_eq!(board.head.pairs, 7);
+}
+
+fn input(words: &[u16]) -> Vec<u8> {
+    words.iter().flat_map(|word| word.to_le_bytes()).collect()
+}
+
+#[test]
+fn cover_sample() {
+    let words = [4, 3, 7, 0, 0, 1, 1, 2, 2, 3, 0, 1, 0, 1, 1, 2, 2, 2, 2];
+    assert_eq!(cover(&input(&words)), b"cover 2 2 2 2\noperator 0 2\noperator 1 2\nride 0 2\nride 1 2\n");
+    assert_eq!(cover(&input(&words)[..37]), b"refused 13\n");
+    assert_eq!(cover(&[]), b"refused 13\n");
+    assert_eq!(cover(&input(&[201, 61, 65535])), b"refused 1\n");
+    assert_eq!(cover(&input(&[4, 61, 65535])), b"refused 2\n");
+    assert_eq!(cover(&input(&[4, 3, 13])), b"refused 4\n");
+    assert_eq!(cover(&input(&[4, 3, 1, 0, 3, 0, 2])), b"refused 5\n");
+    assert_eq!(cover(&input(&[4, 3, 1, 0, 2, 0, 2])), b"refused 11\n");
+}
+
+/// Definition 2.1 over every set of every table of up to 3 by 3: the cover meets the limits, and each set that meets
+/// them lies inside it.
+#[test]
+fn cover_is_the_largest() {
+    for (n, m) in [(0, 0), (0, 2), (2, 0), (1, 3), (3, 1), (2, 3), (3, 2), (3, 3)] {
+        let head = Head { operators: n as u16, rides: m as u16, pairs: 0 };
+        for table in 0..1u32 << (n * m) {
+            let at = |o: usize, r: usize| table >> (o * m + r) & 1 == 1;
+            let pairs: Pairs =
+                (0..n * m).filter(|p| at(p / m, p % m)).map(|p| ((p / m) as u16, (p % m) as u16)).collect();
+            let clearances = Clearances::new(head, &pairs);
+            for (alpha, beta) in (1..=m + 1).flat_map(|a| (1..=n + 1).map(move |b| (a, b))) {
+                let meets = |set: u32| {
+                    let has = |node: usize| set >> node & 1 == 1;
+                    (0..n).all(|o| !has(o) || (0..m).filter(|&r| has(n + r) && at(o, r)).count() >= alpha)
+                        && (0..m).all(|r| !has(n + r) || (0..n).filter(|&o| has(o) && at(o, r)).count() >= beta)
+                };
+                let (operators, rides) = core(&clearances, alpha, beta);
+                let largest: u32 =
+                    operators.numbers().chain(rides.numbers().map(|r| n + r)).map(|node| 1 << node).sum();
+                assert!(meets(largest));
+                assert!((0..1u32 << (n + m)).filter(|&set| meets(set)).all(|set| set & !largest == 0));
+            }
+        }
+    }
+}
+
+/// Demand 3, on a small board with every message of a few: after each list of messages of the kinds 1 and 2 the board
+/// is the one worked out from the latest message of each pair.
+#[test]
+fn delivered_is_the_latest_of_each_pair() {
+    let pool: Vec<Message> = (0..24u16)
+        .map(|i| Message { kind: 1 + i % 2, operator: i / 2 % 2, ride: i / 4 % 2, stamp: 4 + i as u32 / 8 })
+        .collect();
+    let start = 5;
+    let mut state = 1u32;
+    for _ in 0..2000 {
+        let mut board = Store::new(2, 2, &[(0, 1), (1, 0)]);
+        assert_eq!(board.build(start), 0);
+        let mut latest = [(0, 0), (start, GRANT), (start, GRANT), (0, 0)];
+        for _ in 0..12 {
+            state = state.wrapping_mul(1_664_525).wrapping_add(1_013_904_223);
+            let one = pool[(state >> 16) as usize % pool.len()];
+            board.message(one.kind, one.operator, one.ride, one.stamp);
+            let place = (2 * one.operator + one.ride) as usize;
+            latest[place] = latest[place].max((one.stamp, one.kind));
+            let listed: Vec<(u16, u16)> =
+                (0..4).filter(|p| latest[*p].1 == GRANT).map(|p| ((p / 2) as u16, (p % 2) as u16)).collect();
+            let mut fresh = Store::new(2, 2, &listed);
+            assert_eq!(fresh.build(start), 0);
+            assert_eq!(board.head, fresh.head);
+            assert_eq!(board.operators, fresh.operators);
+            assert_eq!(board.rides, fresh.rides);
+            assert_eq!(board.index, fresh.index);
+            assert_eq!(board.stamps[..4], latest.map(|entry| entry.0));
+        }
+    }
+}
+
+/// What a frame says is what was written into it.
+#[test]
+fn frames_are_read_as_written() {
+    use crate::frames::{write_end, Call, Cursor, Part};
+    let head = Head { operators: 4, rides: 3, pairs: 65535 };
+    let one = Message { kind: 1, operator: 2, ride: 3, stamp: 4_294_901_760 };
+    let kept = Part::kept(12);
+    let given = Part::given(14, &[1, 65535], 256);
+    let changed = Part::changed(21, 19, &[5, 6, 7]);
+    let (stamps, index) = (Part::given(12, &[70_000, 1], 65_536), Part::filled(3, 1));
+    let calls = [
+        Call::Build {
+            head,
+            start: 65_537,
+            operators: kept.clone(),
+            rides: given.clone(),
+            stamps: stamps.clone(),
+            index: index.clone(),
+        },
+        Call::Query { head, alpha: 1, beta: 2, index: changed.clone(), marks: given.clone() },
+        Call::Peel {
+            head,
+            alpha: 1,
+            beta: 2,
+            steps: 3,
+            operators: given.clone(),
+            rides: kept.clone(),
+            marks: changed.clone(),
+        },
+        Call::Message {
+            head,
+            message: one,
+            operators: kept.clone(),
+            rides: kept.clone(),
+            stamps: stamps.clone(),
+            index: changed.clone(),
+        },
+        Call::Messages {
+            head,
+            messages: vec![one; 3],
+            operators: given.clone(),
+            rides: kept,
+            stamps,
+            index,
+            answers: given,
+        },
+    ];
+    let mut stream = Vec::new();
+    calls.iter().for_each(|call| call.write(&mut stream));
+    write_end(&mut stream);
+    let mut cursor = Cursor::new(&stream);
+    for call in calls {
+        assert_eq!(cursor.call(), Some(call));
+    }
+    assert_eq!(cursor.call(), None);
+}
