@@ -1,5 +1,6 @@
 //! Writes the streams that are replayed, and what replaying them gives, into the folders `replay_calls`,
-//! `replay_deliveries` and `replay_cover` of the folder named by its argument. The same seed gives the same files.
+//! `replay_deliveries` and `replay_cover` of the folder named by its first argument. The same seed gives the same files;
+//! a second argument is a seed other than that of the stored files.
 
 use reference::frames::{replay_cover, write_end, Call, Memory, Outcome, Part, Reference, INDEX_PLACES, PAIR_PLACES};
 use reference::{Head, Message, GRANT, WITHDRAWAL};
@@ -957,8 +958,9 @@ fn write(folder: &Path, stdin: &[u8], stdout: &[u8]) {
 fn main() {
     let root = std::env::args().nth(1).expect("the folder to write to");
     let root = Path::new(&root);
-    let calls = calls(&mut Random(SEED));
-    let deliveries = deliveries(&mut Random(SEED + 1));
+    let seed = std::env::args().nth(2).map_or(SEED, |seed| seed.parse().expect("a seed that is a number"));
+    let calls = calls(&mut Random(seed));
+    let deliveries = deliveries(&mut Random(seed.wrapping_add(1)));
     for (name, stream) in [("replay_calls", calls), ("replay_deliveries", deliveries)] {
         write(&root.join(name), &stream.bytes, stream.text.as_bytes());
         for ((call, code), times) in &stream.given {
@@ -966,7 +968,7 @@ fn main() {
         }
     }
     let mut stream = Vec::new();
-    for input in cover_inputs(&mut Random(SEED + 2)) {
+    for input in cover_inputs(&mut Random(seed.wrapping_add(2))) {
         stream.extend(u16::try_from(input.len()).expect("an input of at most 65535 bytes").to_le_bytes());
         stream.extend(input);
     }
