@@ -1,0 +1,175 @@
+//! The five calls over slices. The library's calls accept every argument: they check what they use, and refuse. What
+//! they ask of a C program, that a part is as long as it says, aligned and apart from the others, a Rust slice is by its
+//! type. So no call here is `unsafe`.
+
+use crate::exported;
+use crate::Refusal;
+
+/// Head: the sizes, and the number of pairs.
+#[derive(Clone, Copy, Debug, Default, PartialEq, Eq)]
+#[repr(C)]
+pub struct Head {
+    pub operators: u16,
+    pub rides: u16,
+    pub pairs: u16,
+}
+
+/// The kinds of a message.
+pub const GRANT: u16 = 1;
+pub const WITHDRAWAL: u16 = 2;
+
+/// Message: a grant or a withdrawal of one pair. The kind is a number, since a radio can send any.
+#[derive(Clone, Copy, Debug, Default, PartialEq, Eq)]
+#[repr(C)]
+pub struct Message {
+    pub kind: u16,
+    pub operator: u16,
+    pub ride: u16,
+    pub stamp: u32,
+}
+
+impl Message {
+    pub const fn grant(operator: u16, ride: u16, stamp: u32) -> Message {
+        Message { kind: GRANT, operator, ride, stamp }
+    }
+
+    pub const fn withdrawal(operator: u16, ride: u16, stamp: u32) -> Message {
+        Message { kind: WITHDRAWAL, operator, ride, stamp }
+    }
+}
+
+/// How many operators and rides a query marked.
+#[derive(Clone, Copy, Debug, PartialEq, Eq)]
+pub struct Counts {
+    pub operators: u16,
+    pub rides: u16,
+}
+
+/// Whether a peel settled, and the steps that it took.
+#[derive(Clone, Copy, Debug, PartialEq, Eq)]
+pub struct Peeled {
+    pub settled: bool,
+    pub steps: u16,
+}
+
+/// Build: zeroes the tails of the pair arrays, sets the stamps of listed pairs to `start` and the others to 0, and fills
+/// the index.
+pub fn build(
+    head: Head,
+    operators: &mut [u16],
+    rides: &mut [u16],
+    start: u32,
+    stamps: &mut [u32],
+    index: &mut [u16],
+) -> Result<(), Refusal> {
+    Refusal::check(unsafe {
+        exported::board_build(
+            head,
+            operators.as_mut_ptr(),
+            operators.len(),
+            rides.as_mut_ptr(),
+            rides.len(),
+            start,
+            stamps.as_mut_ptr(),
+            stamps.len(),
+            index.as_mut_ptr(),
+            index.len(),
+        )
+    })
+}
+
+/// Query: marks who is in cover (alpha, beta), and counts them.
+pub fn query(head: Head, index: &[u16], alpha: u16, beta: u16, marks: &mut [u16]) -> Result<Counts, Refusal> {
+    let counts = unsafe {
+        exported::board_query(head, index.as_ptr(), index.len(), alpha, beta, marks.as_mut_ptr(), marks.len())
+    };
+    Refusal::check(counts.code)?;
+    Ok(Counts { operators: counts.operators, rides: counts.rides })
+}
+
+/// Peel: clears the marks of those that fall short, the lowest-numbered operator first, then rides, in at most `steps`
+/// steps.
+pub fn peel(
+    head: Head,
+    operators: &[u16],
+    rides: &[u16],
+    marks: &mut [u16],
+    alpha: u16,
+    beta: u16,
+    steps: u16,
+) -> Result<Peeled, Refusal> {
+    let peeled = unsafe {
+        exported::board_peel(
+            head,
+            operators.as_ptr(),
+            operators.len(),
+            rides.as_ptr(),
+            rides.len(),
+            marks.as_mut_ptr(),
+            marks.len(),
+            alpha,
+            beta,
+            steps,
+        )
+    };
+    Refusal::check(peeled.code)?;
+    Ok(Peeled { settled: peeled.settled == 1, steps: peeled.steps })
+}
+
+/// Message: takes one message, if it is later than its pair's last; the number of index words that differ before and
+/// after.
+pub fn message(
+    head: &mut Head,
+    operators: &mut [u16],
+    rides: &mut [u16],
+    stamps: &mut [u32],
+    index: &mut [u16],
+    message: Message,
+) -> Result<u16, Refusal> {
+    let answer = unsafe {
+        exported::board_message(
+            head,
+            operators.as_mut_ptr(),
+            operators.len(),
+            rides.as_mut_ptr(),
+            rides.len(),
+            stamps.as_mut_ptr(),
+            stamps.len(),
+            index.as_mut_ptr(),
+            index.len(),
+            message,
+        )
+    };
+    Refusal::check(answer.code)?;
+    Ok(answer.differ)
+}
+
+/// Message list: takes messages in order; the number of each goes to its place of the answers ([`Refusal::check`] reads
+/// it).
+pub fn messages(
+    head: &mut Head,
+    operators: &mut [u16],
+    rides: &mut [u16],
+    stamps: &mut [u32],
+    index: &mut [u16],
+    messages: &[Message],
+    answers: &mut [u16],
+) -> Result<(), Refusal> {
+    Refusal::check(unsafe {
+        exported::board_messages(
+            head,
+            operators.as_mut_ptr(),
+            operators.len(),
+            rides.as_mut_ptr(),
+            rides.len(),
+            stamps.as_mut_ptr(),
+            stamps.len(),
+            index.as_mut_ptr(),
+            index.len(),
+            messages.as_ptr(),
+            messages.len(),
+            answers.as_mut_ptr(),
+            answers.len(),
+        )
+    })
+}

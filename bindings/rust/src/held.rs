@@ -1,0 +1,172 @@
+//! A board over memory that the caller lends for as long as the board lives.
+
+use crate::{build, index_places, mark_places, message, messages, pair_places, peel, query};
+use crate::{Counts, Head, Message, Peeled, Refusal, OPERATORS_MOST, RIDES_MOST};
+
+const PAIR_PLACES: usize = pair_places(OPERATORS_MOST, RIDES_MOST);
+const INDEX_PLACES: usize = index_places(OPERATORS_MOST, RIDES_MOST);
+const MARK_PLACES: usize = mark_places(OPERATORS_MOST, RIDES_MOST);
+
+/// The parts of a board, lent. Each may be longer than the board needs.
+#[derive(Debug)]
+pub struct Parts<'m> {
+    pub operators: &'m mut [u16],
+    pub rides: &'m mut [u16],
+    pub stamps: &'m mut [u32],
+    pub index: &'m mut [u16],
+}
+
+/// Memory for the parts of any board, up to 200 operators and 60 rides. `new` is const, so that it can stand in a static.
+pub struct Memory {
+    operators: [u16; PAIR_PLACES],
+    rides: [u16; PAIR_PLACES],
+    stamps: [u32; PAIR_PLACES],
+    index: [u16; INDEX_PLACES],
+}
+
+impl Memory {
+    pub const fn new() -> Memory {
+        Memory {
+            operators: [0; PAIR_PLACES],
+            rides: [0; PAIR_PLACES],
+            stamps: [0; PAIR_PLACES],
+            index: [0; INDEX_PLACES],
+        }
+    }
+
+    pub fn parts(&mut self) -> Parts<'_> {
+        Parts {
+            operators: &mut self.operators,
+            rides: &mut self.rides,
+            stamps: &mut self.stamps,
+            index: &mut self.index,
+        }
+    }
+}
+
+impl Default for Memory {
+    fn default() -> Memory {
+        Memory::new()
+    }
+}
+
+/// A board that was built. Its memory is written by its own calls alone, so that of 1 to 6 only a list of the caller's
+/// that is too short (3) refuses a call.
+#[derive(Debug)]
+pub struct Board<'m> {
+    head: Head,
+    parts: Parts<'m>,
+}
+
+impl<'m> Board<'m> {
+    /// Builds a board of these pairs, strictly ascending, in lent memory. A refused build leaves the pairs written in the
+    /// first places of the pair arrays, and everything else as it was.
+    pub fn build(
+        parts: Parts<'m>,
+        operators: u16,
+        rides: u16,
+        pairs: &[(u16, u16)],
+        start: u32,
+    ) -> Result<Board<'m>, Refusal> {
+        let count = u16::try_from(pairs.len()).unwrap_or(u16::MAX);
+        let head = Head { operators, rides, pairs: count };
+        let places = parts.operators.iter_mut().zip(parts.rides.iter_mut()).take(pair_places(operators, rides));
+        for ((operator, ride), pair) in places.zip(pairs) {
+            (*operator, *ride) = *pair;
+        }
+        build(head, parts.operators, parts.rides, start, parts.stamps, parts.index)?;
+        Ok(Board { head, parts })
+    }
+
+    pub fn head(&self) -> Head {
+        self.head
+    }
+
+    /// The listed pairs, ascending.
+    pub fn pairs(&self) -> impl Iterator<Item = (u16, u16)> + '_ {
+        let (operators, rides) = (self.parts.operators.iter(), self.parts.rides.iter());
+        operators.copied().zip(rides.copied()).take(self.head.pairs as usize)
+    }
+
+    /// The stamp of a pair's last message, 0 where none was heard of; `None` out of range.
+    pub fn stamp(&self, operator: u16, ride: u16) -> Option<u32> {
+        let in_range = operator < self.head.operators && ride < self.head.rides;
+        in_range.then(|| self.parts.stamps[operator as usize * self.head.rides as usize + ride as usize])
+    }
+
+    /// The levels of row alpha, operators first, then rides; `None` where the index has no such row.
+    pub fn row(&self, alpha: u16) -> Option<&[u16]> {
+        let width = mark_places(self.head.operators, self.head.rides);
+        let in_range = 1 <= alpha && alpha <= self.head.rides;
+        in_range.then(|| &self.parts.index[(alpha as usize - 1) * width..alpha as usize * width])
+    }
+
+    /// The parts to the lengths that the board uses.
+    pub fn words(&self) -> (&[u16], &[u16], &[u32], &[u16]) {
+        let places = pair_places(self.head.operators, self.head.rides);
+        let words = index_places(self.head.operators, self.head.rides);
+        let parts = &self.parts;
+        (&parts.operators[..places], &parts.rides[..places], &parts.stamps[..places], &parts.index[..words])
+    }
+
+    /// Query, with marks of the caller's.
+    pub fn query(&self, alpha: u16, beta: u16, marks: &mut [u16]) -> Result<Counts, Refusal> {
+        query(self.head, self.parts.index, alpha, beta, marks)
+    }
+
+    /// Query: cover (alpha, beta).
+    pub fn cover(&self, alpha: u16, beta: u16) -> Result<Cover, Refusal> {
+        let mut marks = [0; MARK_PLACES];
+        let counts = self.query(alpha, beta, &mut marks)?;
+        Ok(Cover { head: self.head, counts, marks })
+    }
+
+    /// Peel, from marks of the caller's.
+    pub fn peel(&self, marks: &mut [u16], alpha: u16, beta: u16, steps: u16) -> Result<Peeled, Refusal> {
+        peel(self.head, self.parts.operators, self.parts.rides, marks, alpha, beta, steps)
+    }
+
+    /// Message; the number of index words that differ before and after.
+    pub fn message(&mut self, one: Message) -> Result<u16, Refusal> {
+        let parts = &mut self.parts;
+        message(&mut self.head, parts.operators, parts.rides, parts.stamps, parts.index, one)
+    }
+
+    /// Message list; the number of each message goes to its place of the answers.
+    pub fn messages(&mut self, list: &[Message], answers: &mut [u16]) -> Result<(), Refusal> {
+        let parts = &mut self.parts;
+        messages(&mut self.head, parts.operators, parts.rides, parts.stamps, parts.index, list, answers)
+    }
+}
+
+/// A cover: who is in it.
+#[derive(Clone, Copy, Debug, PartialEq, Eq)]
+pub struct Cover {
+    head: Head,
+    counts: Counts,
+    marks: [u16; MARK_PLACES],
+}
+
+impl Cover {
+    pub fn counts(&self) -> Counts {
+        self.counts
+    }
+
+    pub fn has_operator(&self, operator: u16) -> bool {
+        operator < self.head.operators && self.marks[operator as usize] == 1
+    }
+
+    pub fn has_ride(&self, ride: u16) -> bool {
+        ride < self.head.rides && self.marks[self.head.operators as usize + ride as usize] == 1
+    }
+
+    /// The operators in the cover, ascending.
+    pub fn operators(&self) -> impl Iterator<Item = u16> + '_ {
+        (0..self.head.operators).filter(|&operator| self.has_operator(operator))
+    }
+
+    /// The rides in the cover, ascending.
+    pub fn rides(&self) -> impl Iterator<Item = u16> + '_ {
+        (0..self.head.rides).filter(|&ride| self.has_ride(ride))
+    }
+}

@@ -1,0 +1,45 @@
+//! The crew cover board of document 01 for Rust programs: the five calls of its static library over slices, and a
+//! [`Board`] over memory that the caller lends. Nothing here allocates, and no user of it writes `unsafe`.
+//!
+//! ```
+//! use board::{Board, Memory, Message};
+//!
+//! let mut memory = Box::new(Memory::new());
+//! let pairs = [(0, 0), (0, 1), (1, 0), (1, 1), (2, 1), (2, 2), (3, 2)];
+//! let mut board = Board::build(memory.parts(), 4, 3, &pairs, 10)?;
+//! assert!(!board.cover(2, 2)?.has_ride(2));
+//! board.message(Message::grant(3, 1, 20))?;
+//! assert!(board.cover(2, 2)?.has_ride(2));
+//! # Ok::<(), board::Refusal>(())
+//! ```
+#![no_std]
+
+mod calls;
+mod exported;
+mod held;
+mod refusal;
+
+pub use calls::{build, message, messages, peel, query};
+pub use calls::{Counts, Head, Message, Peeled};
+pub use calls::{GRANT, WITHDRAWAL};
+pub use held::{Board, Cover, Memory, Parts};
+pub use refusal::Refusal;
+
+/// The most operators, and the most rides, of a board.
+pub const OPERATORS_MOST: u16 = 200;
+pub const RIDES_MOST: u16 = 60;
+
+/// The length of each pair array, and of the stamps.
+pub const fn pair_places(operators: u16, rides: u16) -> usize {
+    operators as usize * rides as usize
+}
+
+/// The length of the marks, and of one row of the index: each operator, then each ride.
+pub const fn mark_places(operators: u16, rides: u16) -> usize {
+    operators as usize + rides as usize
+}
+
+/// The length of the index: rides rows.
+pub const fn index_places(operators: u16, rides: u16) -> usize {
+    rides as usize * mark_places(operators, rides)
+}

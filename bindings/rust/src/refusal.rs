@@ -1,0 +1,77 @@
+//! Document 01's numbers from 1.
+
+use core::fmt;
+
+macro_rules! refusals {
+    ($($number:literal $name:ident $text:literal)*) => {
+        /// What a call answers where it refuses. The call has then left all lent memory as it was.
+        #[derive(Clone, Copy, Debug, PartialEq, Eq, PartialOrd, Ord, Hash)]
+        #[repr(u16)]
+        pub enum Refusal {
+            $(#[doc = $text] $name = $number,)*
+        }
+
+        impl Refusal {
+            /// Every refusal, in the order of the numbers.
+            pub const ALL: &'static [Refusal] = &[$(Refusal::$name),*];
+
+            /// The refusal with a number, if there is one.
+            pub const fn from_number(number: u16) -> Option<Refusal> {
+                match number {
+                    $($number => Some(Refusal::$name),)*
+                    _ => None,
+                }
+            }
+
+            /// Document 01's text.
+            pub const fn text(self) -> &'static str {
+                match self {
+                    $(Refusal::$name => $text,)*
+                }
+            }
+        }
+    };
+}
+
+refusals! {
+    1 OperatorsOver "operators over 200"
+    2 RidesOver "rides over 60"
+    3 PartShort "a lent part is too short"
+    4 PairsOver "pairs over operators × rides"
+    5 PairMisplaced "a pair out of range, or not strictly ascending"
+    6 StampMissing "message: a listed pair has stamp 0"
+    7 KindUnknown "message: kind not 1 or 2"
+    8 OutOfRange "message: operator or ride out of range"
+    9 StampZero "message or starting stamp is 0"
+    10 NotLater "message not later than the pair's last"
+    11 LimitZero "α or β is 0"
+    12 MarkUnknown "peel: a mark in use is not 0 or 1"
+    13 InputLengthWrong "program: input length wrong"
+}
+
+impl Refusal {
+    /// Document 01's number.
+    pub const fn number(self) -> u16 {
+        self as u16
+    }
+
+    /// What an answer number says: 0 is done or taken. As each place of an answer list holds one.
+    ///
+    /// # Panics
+    /// Where document 01 has no such number. No call answers one.
+    pub fn check(number: u16) -> Result<(), Refusal> {
+        match (number, Refusal::from_number(number)) {
+            (0, _) => Ok(()),
+            (_, Some(refusal)) => Err(refusal),
+            (_, None) => panic!("document 01 has no number {number}"),
+        }
+    }
+}
+
+impl fmt::Display for Refusal {
+    fn fmt(&self, to: &mut fmt::Formatter) -> fmt::Result {
+        write!(to, "{}: {}", self.number(), self.text())
+    }
+}
+
+impl core::error::Error for Refusal {}

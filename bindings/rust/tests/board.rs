@@ -1,0 +1,213 @@
+//! The wrapper over the library: document 01's samples, each refusal, and what it leaves in lent memory.
+
+use board::*;
+use std::sync::Mutex;
+
+const SAMPLE: [(u16, u16); 7] = [(0, 0), (0, 1), (1, 0), (1, 1), (2, 1), (2, 2), (3, 2)];
+
+/// The board of document 01's samples.
+fn sample(memory: &mut Memory, start: u32) -> Board<'_> {
+    Board::build(memory.parts(), 4, 3, &SAMPLE, start).unwrap()
+}
+
+#[test]
+fn rows() {
+    let mut memory = Memory::new();
+    let board = sample(&mut memory, 1);
+    assert_eq!(board.row(0), None);
+    assert_eq!(board.row(1), Some(&[3, 3, 3, 2, 2, 3, 2][..]));
+    assert_eq!(board.row(2), Some(&[2, 2, 1, 0, 2, 2, 1][..]));
+    assert_eq!(board.row(3), Some(&[0; 7][..]));
+    assert_eq!(board.row(4), None);
+    assert_eq!(board.head(), Head { operators: 4, rides: 3, pairs: 7 });
+    assert!(board.pairs().eq(SAMPLE));
+}
+
+#[test]
+fn covers() {
+    let mut memory = Memory::new();
+    let board = sample(&mut memory, 1);
+    let cover = board.cover(1, 3).unwrap();
+    assert_eq!(cover.counts(), Counts { operators: 3, rides: 1 });
+    assert!(cover.operators().eq([0, 1, 2]));
+    assert!(cover.rides().eq([1]));
+    assert!(!cover.has_operator(3) && !cover.has_operator(4) && !cover.has_ride(3));
+    assert_eq!(board.cover(1, 4).unwrap().counts(), Counts { operators: 0, rides: 0 });
+    assert_eq!(board.cover(4, 1).unwrap().counts(), Counts { operators: 0, rides: 0 });
+    assert_eq!(board.cover(0, 1), Err(Refusal::LimitZero));
+    assert_eq!(board.cover(1, 0), Err(Refusal::LimitZero));
+}
+
+#[test]
+fn peels() {
+    let mut memory = Memory::new();
+    let board = sample(&mut memory, 1);
+    let mut marks = [1; 7];
+    assert_eq!(board.peel(&mut marks, 2, 2, 2), Ok(Peeled { settled: false, steps: 2 }));
+    assert_eq!(marks, [1, 1, 1, 0, 1, 1, 0]);
+    let mut marks = [1; 7];
+    assert_eq!(board.peel(&mut marks, 2, 2, 3), Ok(Peeled { settled: true, steps: 3 }));
+    assert_eq!(board.peel(&mut marks, 2, 2, 0), Ok(Peeled { settled: true, steps: 0 }));
+    assert_eq!(marks, [1, 1, 0, 0, 1, 1, 0]);
+    marks[3] = 2;
+    assert_eq!(board.peel(&mut marks, 2, 2, 9), Err(Refusal::MarkUnknown));
+    assert_eq!(marks, [1, 1, 0, 2, 1, 1, 0]);
+}
+
+#[test]
+fn messages_of_one_pair() {
+    let mut memory = Memory::new();
+    let mut board = sample(&mut memory, 1);
+    assert_eq!(board.message(Message::grant(3, 1, 2)), Ok(8));
+    assert_eq!(board.row(1), Some(&[4, 4, 4, 4, 2, 4, 2][..]));
+    assert_eq!(board.row(2), Some(&[2; 7][..]));
+    assert_eq!(board.head().pairs, 8);
+    assert_eq!(board.stamp(3, 1), Some(2));
+    assert_eq!((board.stamp(0, 2), board.stamp(4, 0), board.stamp(0, 3)), (Some(0), None, None));
+
+    let mut board = sample(&mut memory, 5);
+    assert_eq!(board.message(Message::grant(0, 0, 5)), Err(Refusal::NotLater));
+    assert!(board.message(Message::withdrawal(0, 0, 5)).is_ok());
+    assert!(board.message(Message::grant(0, 0, 6)).is_ok());
+    assert_eq!(board.message(Message { kind: 3, ..Message::default() }), Err(Refusal::KindUnknown));
+    assert_eq!(board.message(Message::grant(4, 0, 6)), Err(Refusal::OutOfRange));
+    assert_eq!(board.message(Message::grant(0, 3, 6)), Err(Refusal::OutOfRange));
+    assert_eq!(board.message(Message::grant(3, 0, 0)), Err(Refusal::StampZero));
+}
+
+#[test]
+fn a_list_is_its_messages() {
+    let list = [
+        Message::withdrawal(3, 2, 9),
+        Message::grant(3, 2, 8),
+        Message { kind: 9, operator: 0, ride: 0, stamp: 1 },
+        Message::grant(2, 0, 7),
+    ];
+    let (mut memory, mut other) = (Memory::new(), Memory::new());
+    let mut board = sample(&mut memory, 5);
+    let mut answers = [77; 5];
+    assert_eq!(board.messages(&list, &mut answers), Ok(()));
+    assert_eq!(answers, [0, 10, 7, 0, 77]);
+    let mut one_by_one = sample(&mut other, 5);
+    for (message, answer) in list.into_iter().zip(answers) {
+        assert_eq!(one_by_one.message(message).map(|_| ()), Refusal::check(answer));
+    }
+    assert_eq!(board.head(), one_by_one.head());
+    assert_eq!(board.words(), one_by_one.words());
+    assert_eq!(board.messages(&list, &mut answers[..3]), Err(Refusal::PartShort));
+    assert_eq!(board.messages(&[], &mut []), Ok(()));
+}
+
+#[test]
+fn refused_builds() {
+    let mut memory = Memory::new();
+    let mut refused = |operators, rides, pairs: &[(u16, u16)], start| {
+        Board::build(memory.parts(), operators, rides, pairs, start).map(|board| board.head())
+    };
+    assert_eq!(refused(201, 61, &[], 1), Err(Refusal::OperatorsOver));
+    assert_eq!(refused(200, 61, &[], 1), Err(Refusal::RidesOver));
+    assert_eq!(refused(1, 1, &[(0, 0), (0, 1)], 1), Err(Refusal::PairsOver));
+    assert_eq!(refused(1, 1, &[(0, 0); 70_000], 1), Err(Refusal::PairsOver));
+    assert_eq!(refused(2, 2, &[(0, 1), (0, 1)], 1), Err(Refusal::PairMisplaced));
+    assert_eq!(refused(2, 2, &[(2, 0)], 1), Err(Refusal::PairMisplaced));
+    assert_eq!(refused(2, 2, &[(0, 1)], 0), Err(Refusal::StampZero));
+    assert_eq!(refused(200, 60, &[], 1), Ok(Head { operators: 200, rides: 60, pairs: 0 }));
+    assert_eq!(refused(0, 0, &[], 1), Ok(Head { operators: 0, rides: 0, pairs: 0 }));
+}
+
+/// A part too short by one place, each in turn; and places past the needed length.
+#[test]
+fn lengths() {
+    let head = Head { operators: 4, rides: 3, pairs: 7 };
+    for short in 0..5 {
+        let length = |part, places: usize| if part == short { places - 1 } else { places + 2 };
+        let mut operators = [7; 14];
+        let mut rides = [7; 14];
+        for (place, pair) in SAMPLE.iter().enumerate() {
+            (operators[place], rides[place]) = *pair;
+        }
+        let (mut stamps, mut index) = ([7; 14], [7; 23]);
+        let before = (operators, rides, stamps, index);
+        let answer = build(
+            head,
+            &mut operators[..length(0, 12)],
+            &mut rides[..length(1, 12)],
+            1,
+            &mut stamps[..length(2, 12)],
+            &mut index[..length(3, 21)],
+        );
+        if short < 4 {
+            assert_eq!(answer, Err(Refusal::PartShort));
+            assert_eq!((operators, rides, stamps, index), before);
+        } else {
+            assert_eq!(answer, Ok(()));
+            assert_eq!(
+                (&operators[12..], &rides[12..], &stamps[12..], &index[21..]),
+                (&[7; 2][..], &[7; 2][..], &[7; 2][..], &[7; 2][..])
+            );
+        }
+    }
+    let mut marks = [9; 7];
+    assert_eq!(query(head, &[0; 20], 1, 1, &mut marks), Err(Refusal::PartShort));
+    assert_eq!(query(head, &[0; 21], 1, 1, &mut marks[..6]), Err(Refusal::PartShort));
+    assert_eq!(peel(head, &[0; 12], &[0; 12], &mut marks[..6], 1, 1, 1), Err(Refusal::PartShort));
+    assert_eq!(marks, [9; 7]);
+}
+
+/// A listed pair with stamp 0, which no board of [`Board`] has.
+#[test]
+fn a_stamp_missing() {
+    let mut head = Head { operators: 1, rides: 1, pairs: 1 };
+    let (mut operators, mut rides, mut stamps, mut index) = ([0], [0], [0], [5, 5]);
+    let mut answers = [9];
+    let one = Message::withdrawal(0, 0, 3);
+    assert_eq!(
+        message(&mut head, &mut operators, &mut rides, &mut stamps, &mut index, one),
+        Err(Refusal::StampMissing)
+    );
+    assert_eq!(
+        messages(&mut head, &mut operators, &mut rides, &mut stamps, &mut index, &[one], &mut answers),
+        Err(Refusal::StampMissing)
+    );
+    assert_eq!((head.pairs, stamps, index, answers), (1, [0], [5, 5], [9]));
+}
+
+/// A board in static memory.
+#[test]
+fn in_a_static() {
+    static MEMORY: Mutex<Memory> = Mutex::new(Memory::new());
+    let mut memory = MEMORY.lock().unwrap();
+    let mut board = Board::build(memory.parts(), 200, 60, &[(0, 5), (3, 5), (17, 4)], 1).unwrap();
+    assert!(!board.cover(1, 3).unwrap().has_ride(5));
+    board.message(Message::grant(17, 5, 1_700_000_000)).unwrap();
+    assert!(board.cover(1, 3).unwrap().has_ride(5));
+}
+
+#[test]
+fn numbers_and_texts() {
+    assert_eq!(Refusal::check(0), Ok(()));
+    for (place, refusal) in Refusal::ALL.iter().enumerate() {
+        let number = place as u16 + 1;
+        assert_eq!((refusal.number(), Refusal::from_number(number)), (number, Some(*refusal)));
+        assert_eq!(Refusal::check(number), Err(*refusal));
+    }
+    assert_eq!((Refusal::from_number(0), Refusal::from_number(14)), (None, None));
+    assert_eq!(Refusal::NotLater.to_string(), "10: message not later than the pair's last");
+}
+
+/// The C header has the same numbers, texts and sizes, its texts in ASCII.
+#[test]
+fn the_header_agrees() {
+    let header = include_str!("../../../include/board.h");
+    for refusal in Refusal::ALL {
+        let text = refusal.text().replace('×', "x").replace('α', "alpha").replace('β', "beta");
+        let number = format!(" = {}", refusal.number());
+        let constant = header.lines().find(|line| line.trim_start().starts_with("BOARD_") && line.contains(&number));
+        let constant = constant.unwrap().split('=').next().unwrap().trim();
+        assert!(header.contains(&format!("case {constant}:\n        return \"{text}\";\n")), "{refusal}");
+    }
+    assert!(header.contains(&format!("BOARD_OPERATORS_MOST {OPERATORS_MOST}\n")));
+    assert!(header.contains(&format!("BOARD_RIDES_MOST {RIDES_MOST}\n")));
+    assert_eq!((size_of::<Head>(), size_of::<Message>()), (6, 12));
+    assert_eq!(core::mem::offset_of!(Message, stamp), 8);
+}
