@@ -1,0 +1,295 @@
+//! The library beside two Rust programs, on equal input in one run: (a) document 003's Algorithm 1 with adjacency lists,
+//! rebuilt after each message, and (b) the library's own algorithm. Prints the tables of docs/BENCHMARK.md.
+
+mod lists;
+mod stack;
+mod tables;
+
+use board::{Board, Memory, Message, Refusal};
+use lists::Lists;
+use std::hint::black_box;
+use std::time::Instant;
+use tables::Tables;
+
+const START: u32 = 1;
+const ROUNDS: usize = 41;
+
+/// A sequence of numbers from a seed (xorshift).
+struct Numbers(u64);
+
+impl Numbers {
+    fn below(&mut self, limit: usize) -> usize {
+        self.0 ^= self.0 << 13;
+        self.0 ^= self.0 >> 7;
+        self.0 ^= self.0 << 17;
+        (self.0 >> 16) as usize % limit
+    }
+}
+
+/// One size of board: its pairs at random, and messages that withdraw a listed pair and grant an unlisted one in turn.
+struct Case {
+    operators: u16,
+    rides: u16,
+    pairs: Vec<(u16, u16)>,
+    messages: Vec<Message>,
+}
+
+impl Case {
+    fn new(operators: u16, rides: u16, count: usize, messages: usize) -> Case {
+        let mut numbers = Numbers(0x9E37_79B9_7F4A_7C15 ^ count as u64);
+        let mut listed: Vec<(u16, u16)> = (0..operators).flat_map(|u| (0..rides).map(move |v| (u, v))).collect();
+        let mut others = Vec::new();
+        while count < listed.len() {
+            others.push(listed.swap_remove(numbers.below(listed.len())));
+        }
+        let mut pairs = listed.clone();
+        pairs.sort();
+        let sent = |place: usize| START + 1 + place as u32;
+        let messages = (0..messages)
+            .map(|place| {
+                let (from, to) = if place % 2 == 0 { (&mut listed, &mut others) } else { (&mut others, &mut listed) };
+                let pair = from.swap_remove(numbers.below(from.len()));
+                to.push(pair);
+                let make = if place % 2 == 0 { Message::withdrawal } else { Message::grant };
+                make(pair.0, pair.1, sent(place))
+            })
+            .collect();
+        Case { operators, rides, pairs, messages }
+    }
+
+    fn nodes(&self) -> usize {
+        self.operators as usize + self.rides as usize
+    }
+}
+
+/// The median time of one call of each program in microseconds. The programs take turns, so that all see the same machine.
+fn medians(calls: usize, programs: &mut [&mut dyn FnMut()]) -> Vec<f64> {
+    let mut times = vec![Vec::new(); programs.len()];
+    for round in 0..ROUNDS + 2 {
+        for (program, times) in programs.iter_mut().zip(&mut times) {
+            let begin = Instant::now();
+            (0..calls).for_each(|_| program());
+            let time = begin.elapsed().as_secs_f64() * 1e6 / calls as f64;
+            if 2 <= round {
+                times.push(time);
+            }
+        }
+    }
+    let median = |mut times: Vec<f64>| {
+        times.sort_by(f64::total_cmp);
+        times[times.len() / 2]
+    };
+    times.into_iter().map(median).collect()
+}
+
+/// The limits of a query or a peel that keep some and drop some: alpha a third of the operators' mean degree, beta the
+/// level of the ride in the middle of that row.
+fn limits(case: &Case, board: &Board) -> (u16, u16) {
+    let alpha = (case.pairs.len() / case.operators as usize * 2 / 3).max(1) as u16;
+    let mut levels = board.row(alpha).unwrap()[case.operators as usize..].to_vec();
+    levels.sort();
+    (alpha, levels[levels.len() / 2].max(1))
+}
+
+/// One line of the table: microseconds of the library, (a) and (b).
+struct Line {
+    call: &'static str,
+    operators: u16,
+    rides: u16,
+    pairs: usize,
+    times: Vec<f64>,
+}
+
+fn run(case: &Case) -> Vec<Line> {
+    let (n, m) = (case.operators, case.rides);
+    let line = |call, times| Line { call, operators: n, rides: m, pairs: case.pairs.len(), times };
+    let mut lines = Vec::new();
+    let mut memory = Box::new(Memory::new());
+
+    // Build. The library's and (b)'s memory is lent and the pairs stand in it, (a) makes its lists of the pairs.
+    let mut tables = Tables::new(n, m, &case.pairs);
+    let places = n as usize * m as usize;
+    let (mut operators, mut rides) = (tables.operator_numbers.clone(), tables.ride_numbers.clone());
+    let (mut stamps, mut index) = (vec![0; places], vec![0; tables.index.len()]);
+    let head = board::Head { operators: n, rides: m, pairs: case.pairs.len() as u16 };
+    let mut lists = Lists::build(n, m, &case.pairs, START);
+    let times = medians(
+        10,
+        &mut [
+            &mut || board::build(head, &mut operators, &mut rides, START, &mut stamps, &mut index).unwrap(),
+            &mut || lists = Lists::build(n, m, black_box(&case.pairs), START),
+            &mut || assert!(black_box(&mut tables).build(START)),
+        ],
+    );
+    assert!(index == lists.index && index == tables.index && stamps == tables.stamps);
+    lines.push(line("build", times));
+
+    // Query, after the build.
+    let mut board = Board::build(memory.parts(), n, m, &case.pairs, START).unwrap();
+    let (alpha, beta) = limits(case, &board);
+    let (mut ours, mut plain) = (vec![0; case.nodes()], vec![0; case.nodes()]);
+    let times = medians(
+        2000,
+        &mut [
+            &mut || {
+                black_box(board.query(black_box(alpha), beta, &mut ours).unwrap());
+            },
+            &mut || {},
+            &mut || {
+                let alpha = black_box(alpha);
+                black_box(tables::query(n as usize, m as usize, black_box(&index), alpha, beta, &mut plain));
+            },
+        ],
+    );
+    assert!(ours == plain);
+    lines.push(line("query", times));
+
+    // Peel, from all ones, with all steps allowed.
+    let (mut marks, mut same) = (Vec::new(), Vec::new());
+    let (mut peeled, mut listed, mut again) = (None, None, None);
+    let times = medians(
+        10,
+        &mut [
+            &mut || {
+                marks = vec![1; case.nodes()];
+                peeled = Some(board.peel(&mut marks, alpha, beta, u16::MAX).unwrap());
+            },
+            &mut || listed = Some(lists::peel(n, m, black_box(&case.pairs), alpha, beta)),
+            &mut || {
+                same = vec![1; case.nodes()];
+                again = black_box(&tables).peel(&mut same, alpha, beta, u16::MAX);
+            },
+        ],
+    );
+    let (peeled, listed) = (peeled.unwrap(), listed.unwrap());
+    assert!(peeled.settled && marks == listed.0 && peeled.steps == listed.1 && marks == same && marks == ours);
+    assert!(again == Some((true, peeled.steps)));
+    lines.push(line("peel", times));
+
+    // Message: all are taken.
+    let mut next = [0; 3];
+    let mut turn = |program: usize| {
+        next[program] += 1;
+        case.messages[next[program] - 1]
+    };
+    let mut differ = [0u64; 3];
+    let turn = std::cell::RefCell::new(&mut turn);
+    let [first, second, third] = &mut differ;
+    let times = medians(
+        case.messages.len() / (ROUNDS + 2),
+        &mut [
+            &mut || *first += board.message(turn.borrow_mut()(0)).unwrap() as u64,
+            &mut || {
+                let one = turn.borrow_mut()(1);
+                *second += lists.message(one.kind == board::GRANT, one.operator, one.ride, one.stamp) as u64;
+            },
+            &mut || {
+                let one = turn.borrow_mut()(2);
+                let grant = one.kind == board::GRANT;
+                *third += tables.message(grant, one.operator, one.ride, one.stamp).unwrap() as u64;
+            },
+        ],
+    );
+    assert!(board.words().3 == lists.index && differ[0] == differ[1] && differ[0] == differ[2]);
+    assert!(
+        board.words()
+            == (&tables.operator_numbers[..], &tables.ride_numbers[..], &tables.stamps[..], &tables.index[..])
+    );
+    lines.push(line("message", times));
+    lines
+}
+
+fn print_lines(lines: &[Line]) {
+    println!("| Call | Board | Pairs | library µs | (a) µs | (b) µs | library / (a) | library / (b) |");
+    println!("|---|---|---:|---:|---:|---:|---:|---:|");
+    for line in lines {
+        let [library, lists, same] = line.times[..] else { unreachable!() };
+        let (lists, ratio) = if line.call == "query" {
+            ("".to_string(), "".to_string())
+        } else {
+            (format!("{lists:.1}"), format!("{:.2}", library / lists))
+        };
+        let digits = if line.call == "query" { 3 } else { 1 };
+        println!(
+            "| {} | {} × {} | {} | {library:.digits$} | {lists} | {same:.digits$} | {ratio} | {:.2} |",
+            line.call,
+            line.operators,
+            line.rides,
+            line.pairs,
+            library / same
+        );
+    }
+    println!();
+}
+
+fn print_goal(lines: &[Line], call: &str, against: usize, name: &str, most: f64) {
+    let line = lines.iter().find(|line| line.call == call && line.operators == 200 && line.pairs == 6000).unwrap();
+    let ratio = line.times[0] / line.times[against];
+    let reached = if ratio <= most { "reached" } else { "NOT reached" };
+    println!("- {call} at most {most} × {name}: {ratio:.2}, {reached}");
+}
+
+/// The deepest stack of each call over several boards of 200 × 60, and its lent bytes.
+fn print_memory() {
+    let cases: Vec<Case> =
+        [0, 1, 3000, 6000, 12000].iter().map(|&count| Case::new(200, 60, count.max(1), 24)).collect();
+    let mut deepest = [0; 5];
+    let mut memory = Box::new(Memory::new());
+    let mut other = Box::new(Memory::new());
+    for case in &cases {
+        let pairs = &case.pairs;
+        let deep = stack::deepest(|| assert!(Board::build(other.parts(), 200, 60, pairs, START).is_ok()));
+        let mut board = Board::build(memory.parts(), 200, 60, pairs, START).unwrap();
+        let (alpha, beta) = limits(case, &board);
+        let mut marks = [1; 260];
+        let mut answers = [0; 12];
+        let peeled = stack::deepest(|| assert!(board.peel(&mut marks, alpha, beta, u16::MAX).is_ok()));
+        let queried = stack::deepest(|| assert!(board.query(alpha, beta, &mut marks).is_ok()));
+        let taken = case.messages[..12].iter().map(|&one| stack::deepest(|| assert!(board.message(one).is_ok()))).max();
+        let listed = stack::deepest(|| board.messages(&case.messages[12..], &mut answers).unwrap());
+        assert!(answers.iter().all(|&answer| Refusal::check(answer).is_ok()));
+        for (most, now) in deepest.iter_mut().zip([deep, queried, peeled, taken.unwrap(), listed]) {
+            *most = now.max(*most);
+        }
+    }
+    let (pairs, index, marks) = (12000 * 2, 15600 * 2, 260 * 2);
+    let board = 2 * pairs + 12000 * 4 + index;
+    let lent = [
+        (format!("{board}"), "pair arrays, stamps, index"),
+        (format!("{}", index + marks), "index, marks"),
+        (format!("{}", 2 * pairs + marks), "pair arrays, marks"),
+        (format!("{}", 6 + board), "head, pair arrays, stamps, index"),
+        (format!("{} + 14 for each message", 6 + board), "as message, the messages and their answers"),
+    ];
+    println!("| Call | Deepest stack, bytes | Lent, bytes | What is lent |");
+    println!("|---|---:|---:|---|");
+    let names = ["build", "query", "peel", "message", "message list"];
+    for ((name, deep), (bytes, what)) in names.iter().zip(deepest).zip(lent) {
+        println!("| {name} | {deep} | {bytes} | {what} |");
+    }
+}
+
+fn main() {
+    let messages = 8 * (ROUNDS + 2);
+    let mut lines = Vec::new();
+    for pairs in [3000, 6000, 12000] {
+        lines.extend(run(&Case::new(200, 60, pairs, messages)));
+    }
+    lines.sort_by_key(|line| ["build", "query", "peel", "message"].iter().position(|call| *call == line.call));
+    println!("Medians of {ROUNDS} rounds, in which the programs take turns.\n");
+    print_lines(&lines);
+    println!("At 6,000 pairs:\n");
+    print_goal(&lines, "build", 1, "(a)", 0.4);
+    print_goal(&lines, "message", 1, "(a)", 0.4);
+    print_goal(&lines, "build", 2, "(b)", 1.1);
+    print_goal(&lines, "query", 2, "a Rust loop", 1.1);
+    println!("\nGrowth, with half of all pairs:\n");
+    let mut lines = Vec::new();
+    for (operators, rides) in [(50, 15), (100, 30), (200, 60)] {
+        lines.extend(run(&Case::new(operators, rides, operators as usize * rides as usize / 2, messages)));
+    }
+    lines.sort_by_key(|line| ["build", "query", "peel", "message"].iter().position(|call| *call == line.call));
+    print_lines(&lines);
+    println!("Memory at 200 × 60:\n");
+    print_memory();
+}

@@ -1,0 +1,288 @@
+//! (b) The library's own algorithm in Rust: dense tables of bytes, sweeps that subtract whole rows, a limit that rises to
+//! one more than the least degree of a ride.
+
+/// A board with the parts that the library keeps.
+pub struct Tables {
+    pub operators: u16,
+    pub rides: u16,
+    pub pairs: u16,
+    pub operator_numbers: Vec<u16>,
+    pub ride_numbers: Vec<u16>,
+    pub stamps: Vec<u32>,
+    pub index: Vec<u16>,
+}
+
+fn misplaced(n: u16, m: u16, operators: &[u16], rides: &[u16], i: usize) -> bool {
+    let (u, v) = (operators[i], rides[i]);
+    if n <= u || m <= v {
+        return true;
+    }
+    if i == 0 {
+        return false;
+    }
+    let (u0, v0) = (operators[i - 1], rides[i - 1]);
+    !(u0 < u || (u0 == u && v0 < v))
+}
+
+fn ascending(n: u16, m: u16, pairs: u16, operators: &[u16], rides: &[u16]) -> bool {
+    (0..pairs as usize).all(|i| !misplaced(n, m, operators, rides, i))
+}
+
+fn fill(rows: &[u16], columns: &[u16], pairs: usize, width: usize, table: &mut [u8]) {
+    for (&row, &column) in rows[..pairs].iter().zip(&columns[..pairs]) {
+        table[row as usize * width + column as usize] = 1;
+    }
+}
+
+fn subtract(degrees: &mut [u8], row: &[u8]) {
+    for (degree, one) in degrees.iter_mut().zip(row) {
+        *degree = degree.wrapping_sub(*one);
+    }
+}
+
+fn add(degrees: &mut [u8], row: &[u8]) {
+    for (degree, one) in degrees.iter_mut().zip(row) {
+        *degree = degree.wrapping_add(*one);
+    }
+}
+
+/// Removes the nodes of a side that fall short of the limit; how many.
+#[allow(clippy::too_many_arguments)]
+fn sweep(
+    kept: &mut [u8],
+    degrees: &[u8],
+    limit: u8,
+    levels: &mut [u16],
+    level: u16,
+    others: &mut [u8],
+    table: &[u8],
+    width: usize,
+) -> usize {
+    let mut removed = 0;
+    for i in 0..kept.len() {
+        if kept[i] == 1 && degrees[i] < limit {
+            kept[i] = 0;
+            levels[i] = level;
+            let at = i * width;
+            let end = at + others.len();
+            subtract(others, &table[at..end]);
+            removed += 1;
+        }
+    }
+    removed
+}
+
+/// Who is kept, and the degrees inside those.
+#[derive(Clone)]
+struct Kept {
+    operators: [u8; 200],
+    rides: [u8; 60],
+    operator_degrees: [u8; 200],
+    ride_degrees: [u8; 60],
+}
+
+fn fill_row(by_operator: &[u8], by_ride: &[u8], mut kept: Kept, n: usize, m: usize, alpha: u8, row: &mut [u16]) {
+    let (operators, rides) = (&mut kept.operators[..n], &mut kept.rides[..m]);
+    let (operator_degrees, ride_degrees) = (&mut kept.operator_degrees[..n], &mut kept.ride_degrees[..m]);
+    let (operator_levels, ride_levels) = row.split_at_mut(n);
+    let mut beta: u8 = 1;
+    loop {
+        let level = (beta - 1) as u16;
+        loop {
+            sweep(rides, ride_degrees, beta, ride_levels, level, operator_degrees, by_ride, 200);
+            if sweep(operators, operator_degrees, alpha, operator_levels, level, ride_degrees, by_operator, 60) == 0 {
+                break;
+            }
+        }
+        let degrees = rides.iter().zip(ride_degrees.iter());
+        match degrees.filter(|ride| *ride.0 == 1).map(|ride| *ride.1).min() {
+            Some(least) => beta = least + 1,
+            None => return,
+        }
+    }
+}
+
+/// Fills the index; the number of words that differ before and after.
+fn fill_index(n: usize, m: usize, pairs: usize, operators: &[u16], rides: &[u16], index: &mut [u16]) -> u16 {
+    let (mut by_operator, mut by_ride) = ([0; 12000], [0; 12000]);
+    fill(operators, rides, pairs, 60, &mut by_operator);
+    fill(rides, operators, pairs, 200, &mut by_ride);
+    let mut all = Kept { operators: [1; 200], rides: [1; 60], operator_degrees: [0; 200], ride_degrees: [0; 60] };
+    by_ride.chunks(200).take(m).for_each(|row| add(&mut all.operator_degrees[..n], row));
+    by_operator.chunks(60).take(n).for_each(|row| add(&mut all.ride_degrees[..m], row));
+    let high = all.operator_degrees[..n].iter().copied().max().unwrap_or(0);
+    let mut row = [0; 260];
+    let row = &mut row[..n + m];
+    let mut differ = 0;
+    for alpha in 1..=m {
+        if alpha <= high as usize {
+            fill_row(&by_operator, &by_ride, all.clone(), n, m, alpha as u8, row);
+        } else {
+            row.fill(0);
+        }
+        for (word, level) in index[(alpha - 1) * (n + m)..alpha * (n + m)].iter_mut().zip(&*row) {
+            differ += (word != level) as u16;
+            *word = *level;
+        }
+    }
+    differ
+}
+
+impl Tables {
+    /// Room for a board; its pairs are in the pair arrays.
+    pub fn new(operators: u16, rides: u16, pairs: &[(u16, u16)]) -> Tables {
+        let (n, m) = (operators as usize, rides as usize);
+        let mut tables = Tables {
+            operators,
+            rides,
+            pairs: pairs.len() as u16,
+            operator_numbers: vec![0; n * m],
+            ride_numbers: vec![0; n * m],
+            stamps: vec![0; n * m],
+            index: vec![0; m * (n + m)],
+        };
+        for (place, pair) in pairs.iter().enumerate() {
+            (tables.operator_numbers[place], tables.ride_numbers[place]) = *pair;
+        }
+        tables
+    }
+
+    fn accepted(&self) -> bool {
+        let (n, m) = (self.operators as usize, self.rides as usize);
+        n <= 200
+            && m <= 60
+            && n * m <= self.operator_numbers.len()
+            && n * m <= self.ride_numbers.len()
+            && n * m <= self.stamps.len()
+            && m * (n + m) <= self.index.len()
+            && self.pairs as usize <= n * m
+            && ascending(self.operators, self.rides, self.pairs, &self.operator_numbers, &self.ride_numbers)
+    }
+
+    fn stamp_place(&self, operator: u16, ride: u16) -> usize {
+        operator as usize * self.rides as usize + ride as usize
+    }
+
+    fn clear_tails(&mut self) {
+        let (pairs, places) = (self.pairs as usize, self.operators as usize * self.rides as usize);
+        self.operator_numbers[pairs..places].fill(0);
+        self.ride_numbers[pairs..places].fill(0);
+    }
+
+    fn fill_index(&mut self) -> u16 {
+        let (n, m) = (self.operators as usize, self.rides as usize);
+        fill_index(n, m, self.pairs as usize, &self.operator_numbers, &self.ride_numbers, &mut self.index)
+    }
+
+    pub fn build(&mut self, start: u32) -> bool {
+        if !self.accepted() || start == 0 {
+            return false;
+        }
+        self.clear_tails();
+        self.stamps[..self.operators as usize * self.rides as usize].fill(0);
+        for i in 0..self.pairs as usize {
+            let place = self.stamp_place(self.operator_numbers[i], self.ride_numbers[i]);
+            self.stamps[place] = start;
+        }
+        self.fill_index();
+        true
+    }
+
+    /// The number of index words that differ, or none where the message is refused.
+    pub fn message(&mut self, grant: bool, operator: u16, ride: u16, stamp: u32) -> Option<u16> {
+        if !self.accepted() {
+            return None;
+        }
+        let pairs = self.pairs as usize;
+        let listed = self.operator_numbers[..pairs].iter().zip(&self.ride_numbers[..pairs]);
+        if listed.into_iter().any(|(&u, &v)| self.stamps[self.stamp_place(u, v)] == 0) {
+            return None;
+        }
+        if self.operators <= operator || self.rides <= ride || stamp == 0 {
+            return None;
+        }
+        let before = |i: usize| (self.operator_numbers[i], self.ride_numbers[i]) < (operator, ride);
+        let (mut low, mut high) = (0, pairs);
+        while low < high {
+            let middle = low + (high - low) / 2;
+            if before(middle) {
+                low = middle + 1;
+            } else {
+                high = middle;
+            }
+        }
+        let is_listed = low < pairs && (self.operator_numbers[low], self.ride_numbers[low]) == (operator, ride);
+        let last = self.stamps[self.stamp_place(operator, ride)];
+        if !(last < stamp || (last == stamp && !grant && is_listed)) {
+            return None;
+        }
+        let place = self.stamp_place(operator, ride);
+        self.stamps[place] = stamp;
+        if grant && !is_listed {
+            self.operator_numbers.copy_within(low..pairs, low + 1);
+            self.ride_numbers.copy_within(low..pairs, low + 1);
+            (self.operator_numbers[low], self.ride_numbers[low]) = (operator, ride);
+            self.pairs += 1;
+        }
+        if !grant && is_listed {
+            self.operator_numbers.copy_within(low + 1..pairs, low);
+            self.ride_numbers.copy_within(low + 1..pairs, low);
+            self.pairs -= 1;
+        }
+        self.clear_tails();
+        Some(self.fill_index())
+    }
+
+    /// A peel of at most so many steps; whether it settled, and the steps taken.
+    pub fn peel(&self, marks: &mut [u16], alpha: u16, beta: u16, allowed: u16) -> Option<(bool, u16)> {
+        if !self.accepted() || alpha == 0 || beta == 0 || marks.iter().any(|&mark| 1 < mark) {
+            return None;
+        }
+        let (n, m, pairs) = (self.operators as usize, self.rides as usize, self.pairs as usize);
+        let (mut by_operator, mut by_ride) = ([0; 12000], [0; 12000]);
+        fill(&self.operator_numbers, &self.ride_numbers, pairs, 60, &mut by_operator);
+        fill(&self.ride_numbers, &self.operator_numbers, pairs, 200, &mut by_ride);
+        let mut degrees = [0; 260];
+        let common = |row: &[u8], marks: &[u16]| row.iter().zip(marks).map(|(a, b)| a * *b as u8).sum::<u8>();
+        for x in 0..n + m {
+            degrees[x] = if x < n {
+                common(&by_operator[x * 60..x * 60 + m], &marks[n..])
+            } else {
+                common(&by_ride[(x - n) * 200..(x - n) * 200 + n], &marks[..n])
+            };
+        }
+        let mut steps = 0;
+        loop {
+            let short = |x: &usize| marks[*x] == 1 && (degrees[*x] as u16) < if *x < n { alpha } else { beta };
+            let Some(x) = (0..n + m).find(short) else {
+                return Some((true, steps));
+            };
+            if steps == allowed {
+                return Some((false, steps));
+            }
+            marks[x] = 0;
+            steps += 1;
+            if x < n {
+                subtract(&mut degrees[n..n + m], &by_operator[x * 60..x * 60 + m]);
+            } else {
+                subtract(&mut degrees[..n], &by_ride[(x - n) * 200..(x - n) * 200 + n]);
+            }
+        }
+    }
+}
+
+/// Marks the levels from beta on, and counts them: a plain loop.
+fn mark(levels: &[u16], beta: u16, marks: &mut [u16]) -> u16 {
+    let mut count = 0;
+    for (mark, level) in marks.iter_mut().zip(levels) {
+        *mark = (beta <= *level) as u16;
+        count += *mark;
+    }
+    count
+}
+
+/// A plain loop over the row of a query, for operators and then for rides: marks, and the counts.
+pub fn query(n: usize, m: usize, index: &[u16], alpha: u16, beta: u16, marks: &mut [u16]) -> (u16, u16) {
+    let row = &index[(alpha as usize - 1) * (n + m)..alpha as usize * (n + m)];
+    (mark(&row[..n], beta, &mut marks[..n]), mark(&row[n..], beta, &mut marks[n..]))
+}
