@@ -1,7 +1,10 @@
-//! The library's functions as `include/board.h` declares them. Nothing checks this against the library's source.
+//! The library's functions as `include/board.h` declares them, for tests of the library itself: users want
+//! [`Board`](crate::Board), or the calls of this package over slices. Nothing checks these declarations against the
+//! library's source.
 
 use crate::calls::{Head, Message};
 
+#[derive(Clone, Copy, Debug, PartialEq, Eq)]
 #[repr(C)]
 pub struct Counts {
     pub code: u16,
@@ -9,6 +12,7 @@ pub struct Counts {
     pub rides: u16,
 }
 
+#[derive(Clone, Copy, Debug, PartialEq, Eq)]
 #[repr(C)]
 pub struct Peeled {
     pub code: u16,
@@ -16,6 +20,7 @@ pub struct Peeled {
     pub steps: u16,
 }
 
+#[derive(Clone, Copy, Debug, PartialEq, Eq)]
 #[repr(C)]
 pub struct Answer {
     pub code: u16,

@@ -15,7 +15,7 @@
 #![no_std]
 
 mod calls;
-mod exported;
+pub mod exported;
 mod held;
 mod refusal;
 

@@ -1,0 +1,151 @@
+//! The proved library's calls, as the static library exports them, behind the reference's trait.
+
+pub mod guarded;
+
+use board::exported;
+use reference::frames::Board;
+use reference::{Answer, Counts, Head, Message, Peeled};
+
+fn head_of(head: Head) -> board::Head {
+    board::Head { operators: head.operators, rides: head.rides, pairs: head.pairs }
+}
+
+fn message_of(message: Message) -> board::Message {
+    board::Message { kind: message.kind, operator: message.operator, ride: message.ride, stamp: message.stamp }
+}
+
+/// The head and the message of the two packages lie alike in memory, so that a lent one is passed as it stands.
+const _: () = {
+    use std::mem::{align_of, offset_of, size_of};
+    assert!(size_of::<Head>() == size_of::<board::Head>() && align_of::<Head>() == align_of::<board::Head>());
+    assert!(offset_of!(Head, operators) == offset_of!(board::Head, operators));
+    assert!(offset_of!(Head, rides) == offset_of!(board::Head, rides));
+    assert!(offset_of!(Head, pairs) == offset_of!(board::Head, pairs));
+    assert!(size_of::<Message>() == size_of::<board::Message>());
+    assert!(align_of::<Message>() == align_of::<board::Message>());
+    assert!(offset_of!(Message, kind) == offset_of!(board::Message, kind));
+    assert!(offset_of!(Message, operator) == offset_of!(board::Message, operator));
+    assert!(offset_of!(Message, ride) == offset_of!(board::Message, ride));
+    assert!(offset_of!(Message, stamp) == offset_of!(board::Message, stamp));
+};
+
+/// The proved library. Its calls have no `requires`, so that every argument is allowed. In each call below the parts
+/// are distinct, as Rust's references are, and live until the call returns.
+pub struct Proved;
+
+impl Board for Proved {
+    fn build(
+        &mut self,
+        head: Head,
+        operators: &mut [u16],
+        rides: &mut [u16],
+        start: u32,
+        stamps: &mut [u32],
+        index: &mut [u16],
+    ) -> u16 {
+        unsafe {
+            exported::board_build(
+                head_of(head),
+                operators.as_mut_ptr(),
+                operators.len(),
+                rides.as_mut_ptr(),
+                rides.len(),
+                start,
+                stamps.as_mut_ptr(),
+                stamps.len(),
+                index.as_mut_ptr(),
+                index.len(),
+            )
+        }
+    }
+
+    fn query(&mut self, head: Head, index: &[u16], alpha: u16, beta: u16, marks: &mut [u16]) -> Counts {
+        let (marks_at, marks_length) = (marks.as_mut_ptr(), marks.len());
+        let counts = unsafe {
+            exported::board_query(head_of(head), index.as_ptr(), index.len(), alpha, beta, marks_at, marks_length)
+        };
+        Counts { code: counts.code, operators: counts.operators, rides: counts.rides }
+    }
+
+    fn peel(
+        &mut self,
+        head: Head,
+        operators: &[u16],
+        rides: &[u16],
+        marks: &mut [u16],
+        alpha: u16,
+        beta: u16,
+        steps: u16,
+    ) -> Peeled {
+        let peeled = unsafe {
+            exported::board_peel(
+                head_of(head),
+                operators.as_ptr(),
+                operators.len(),
+                rides.as_ptr(),
+                rides.len(),
+                marks.as_mut_ptr(),
+                marks.len(),
+                alpha,
+                beta,
+                steps,
+            )
+        };
+        Peeled { code: peeled.code, settled: peeled.settled, steps: peeled.steps }
+    }
+
+    fn message(
+        &mut self,
+        head: &mut Head,
+        operators: &mut [u16],
+        rides: &mut [u16],
+        stamps: &mut [u32],
+        index: &mut [u16],
+        message: Message,
+    ) -> Answer {
+        let answer = unsafe {
+            exported::board_message(
+                (head as *mut Head).cast(),
+                operators.as_mut_ptr(),
+                operators.len(),
+                rides.as_mut_ptr(),
+                rides.len(),
+                stamps.as_mut_ptr(),
+                stamps.len(),
+                index.as_mut_ptr(),
+                index.len(),
+                message_of(message),
+            )
+        };
+        Answer { code: answer.code, differ: answer.differ }
+    }
+
+    fn messages(
+        &mut self,
+        head: &mut Head,
+        operators: &mut [u16],
+        rides: &mut [u16],
+        stamps: &mut [u32],
+        index: &mut [u16],
+        messages: &[Message],
+        answers: &mut [u16],
+    ) -> u16 {
+        unsafe {
+            exported::board_messages(
+                (head as *mut Head).cast(),
+                operators.as_mut_ptr(),
+                operators.len(),
+                rides.as_mut_ptr(),
+                rides.len(),
+                stamps.as_mut_ptr(),
+                stamps.len(),
+                index.as_mut_ptr(),
+                index.len(),
+                messages.as_ptr().cast(),
+                messages.len(),
+                answers.as_mut_ptr(),
+                answers.len(),
+            )
+        }
+    }
+}

@@ -1,0 +1,57 @@
+//! Random sequences of the five calls on the library and on the reference, for so many seconds, from a seed.
+
+mod compared;
+mod numbers;
+mod sequences;
+
+use compared::{Compared, Totals};
+use numbers::Numbers;
+use sequences::{delivery, sequence, Size};
+use std::time::{Duration, Instant, SystemTime, UNIX_EPOCH};
+
+fn print_totals(totals: &Totals) {
+    println!("calls compared: {}", totals.calls());
+    println!("  build {}, query {}, peel {}", totals.builds, totals.queries, totals.peels);
+    println!("  message {}, message list {} with {} messages", totals.messages, totals.lists, totals.listed_messages);
+    println!("  accepted on boards of 200 × 60: {}", totals.largest);
+    println!("  peels settled {}, unsettled {}", totals.settled, totals.unsettled);
+    for (number, count) in totals.numbers.iter().enumerate() {
+        println!("  answered {number}: {count}");
+    }
+    println!("message sets delivered in several orders: {}", totals.deliveries);
+    println!("lent words compared: {}", totals.words);
+    println!("differences: {}", totals.differences);
+}
+
+fn main() {
+    let mut words = std::env::args().skip(1);
+    let mut number = |what: &str| {
+        words.next().map(|word| word.parse::<u64>().unwrap_or_else(|_| panic!("{what} is not a number: {word}")))
+    };
+    let seconds = number("the number of seconds").unwrap_or(45);
+    let clock =
+        || SystemTime::now().duration_since(UNIX_EPOCH).map_or(1, |time| time.as_nanos() as u64 % 1_000_000_000);
+    let seed = number("the seed").unwrap_or_else(clock);
+    println!("seed {seed}, {seconds} seconds");
+
+    let mut numbers = Numbers::new(seed);
+    let mut compared = Compared::new(seed);
+    let (begin, mut told) = (Instant::now(), Instant::now());
+    while begin.elapsed() < Duration::from_secs(seconds) && compared.totals.differences < 10 {
+        match numbers.below(200) {
+            0 => sequence(&mut compared, &mut numbers, Size::Large),
+            1 => delivery(&mut compared, &mut numbers, Size::Large),
+            2..=21 => sequence(&mut compared, &mut numbers, Size::Middle),
+            22..=26 => delivery(&mut compared, &mut numbers, Size::Middle),
+            27..=50 => delivery(&mut compared, &mut numbers, Size::Small),
+            _ => sequence(&mut compared, &mut numbers, Size::Small),
+        }
+        if Duration::from_secs(10) <= told.elapsed() {
+            let totals = &compared.totals;
+            println!("{} s: {} calls, {} differences", begin.elapsed().as_secs(), totals.calls(), totals.differences);
+            told = Instant::now();
+        }
+    }
+    print_totals(&compared.totals);
+    std::process::exit(if compared.totals.differences == 0 { 0 } else { 1 });
+}

@@ -1,0 +1,348 @@
+//! Random sequences of calls, with damaged input among them, and deliveries of the same messages in several orders.
+
+use crate::compared::{Compared, Lent, INDEX_MOST, LIST_MOST, MARKS_MOST, PAIRS_MOST};
+use crate::numbers::Numbers;
+use reference::{Head, Message, GRANT, WITHDRAWAL};
+use std::collections::BTreeMap;
+
+const START: u32 = 100;
+
+/// The sizes of a board.
+#[derive(Clone, Copy)]
+pub enum Size {
+    Small,
+    Middle,
+    Large,
+}
+
+impl Size {
+    fn numbers(self, numbers: &mut Numbers) -> (u16, u16) {
+        match self {
+            Size::Small => (numbers.below(9) as u16, numbers.below(7) as u16),
+            Size::Middle => (numbers.below(40) as u16, numbers.below(20) as u16),
+            Size::Large => match numbers.below(4) {
+                0 => (200, 1 + numbers.below(60) as u16),
+                1 => (1 + numbers.below(200) as u16, 60),
+                _ => (200, 60),
+            },
+        }
+    }
+
+    fn calls(self) -> usize {
+        match self {
+            Size::Small => 40,
+            Size::Middle => 20,
+            Size::Large => 8,
+        }
+    }
+
+    fn messages(self) -> usize {
+        match self {
+            Size::Small => 30,
+            Size::Middle => 12,
+            Size::Large => 4,
+        }
+    }
+}
+
+/// A pair table: evenly spread, or denser toward higher numbers, so that levels differ.
+fn table(numbers: &mut Numbers, n: u16, m: u16) -> Vec<(u16, u16)> {
+    let density = numbers.of(&[0, 5, 20, 50, 80, 100]);
+    let graded = numbers.one_in(2);
+    let mut pairs = Vec::new();
+    for operator in 0..n {
+        for ride in 0..m {
+            let share = if graded {
+                2 * density * (operator as usize * m as usize + n as usize * ride as usize)
+                    / (2 * n as usize * m as usize)
+            } else {
+                density
+            };
+            if numbers.below(100) < share {
+                pairs.push((operator, ride));
+            }
+        }
+    }
+    pairs
+}
+
+/// Memory of any content for a board, with its pairs in place: as long as needed, or a little longer.
+fn lent(numbers: &mut Numbers, n: u16, m: u16, pairs: &[(u16, u16)]) -> Lent {
+    let head = Head { operators: n, rides: m, pairs: pairs.len() as u16 };
+    let mut length = |places: usize| places + numbers.of(&[0, 0, 0, 1, 2, 5]);
+    let (operators, rides) = (length(head.places()), length(head.places()));
+    let (stamps, index) = (length(head.places()), length(head.words()));
+    let mut lent = Lent {
+        head,
+        operators: (0..operators).map(|_| numbers.word()).collect(),
+        rides: (0..rides).map(|_| numbers.word()).collect(),
+        stamps: (0..stamps).map(|_| numbers.next() as u32).collect(),
+        index: (0..index).map(|_| numbers.word()).collect(),
+    };
+    for (place, pair) in pairs.iter().enumerate() {
+        (lent.operators[place], lent.rides[place]) = *pair;
+    }
+    lent
+}
+
+/// Cuts a part short, or makes it longer.
+fn resize<T: Clone + Default>(numbers: &mut Numbers, part: &mut Vec<T>, most: usize) {
+    let length = match numbers.below(4) {
+        0 => part.len().saturating_sub(1),
+        1 => numbers.below(part.len() + 1),
+        2 => 0,
+        _ => (part.len() + 1 + numbers.below(7)).min(most),
+    };
+    part.resize(length, T::default());
+}
+
+/// Changes a word of a part.
+fn spoil(numbers: &mut Numbers, part: &mut [u16], word: u16) {
+    if !part.is_empty() {
+        part[numbers.below(part.len())] = word;
+    }
+}
+
+/// Damages one thing of a board.
+fn damage(numbers: &mut Numbers, lent: &mut Lent) {
+    let head = lent.head;
+    let pairs = head.pairs as usize;
+    match numbers.below(14) {
+        0 => {
+            lent.head.operators =
+                numbers.of(&[201, 65535, head.operators.saturating_add(1), head.operators.saturating_sub(1)])
+        }
+        1 => lent.head.rides = numbers.of(&[61, 65535, head.rides.saturating_add(1), head.rides.saturating_sub(1)]),
+        2 => {
+            let over = (head.places() + 1).min(65535) as u16;
+            lent.head.pairs = numbers.of(&[over, 65535, head.pairs.saturating_add(1), head.pairs.saturating_sub(1)])
+        }
+        3 => resize(numbers, &mut lent.operators, PAIRS_MOST),
+        4 => resize(numbers, &mut lent.rides, PAIRS_MOST),
+        5 => resize(numbers, &mut lent.stamps, PAIRS_MOST),
+        6 => resize(numbers, &mut lent.index, INDEX_MOST),
+        7 => {
+            let word = numbers.of(&[0, head.operators, head.operators.saturating_sub(1), 65535]);
+            let used = pairs.min(lent.operators.len());
+            spoil(numbers, &mut lent.operators[..used], word);
+        }
+        8 => {
+            let word = numbers.of(&[0, head.rides, head.rides.saturating_sub(1), 65535]);
+            let used = pairs.min(lent.rides.len());
+            spoil(numbers, &mut lent.rides[..used], word);
+        }
+        9 if 2 <= pairs && pairs <= lent.operators.len().min(lent.rides.len()) => {
+            let place = numbers.below(pairs - 1);
+            lent.operators.swap(place, place + 1);
+            lent.rides.swap(place, place + 1);
+        }
+        10 if !lent.stamps.is_empty() => {
+            let place = numbers.below(lent.stamps.len());
+            lent.stamps[place] = numbers.of(&[0, 1, START, u32::MAX]);
+        }
+        11 => lent.stamps.iter_mut().for_each(|stamp| *stamp = 0),
+        12 => {
+            let word = numbers.word();
+            spoil(numbers, &mut lent.index, word);
+        }
+        _ => {
+            // Words past the pair count, which no call reads.
+            let words = [numbers.word(), numbers.word()];
+            let (from, to) = (pairs.min(lent.operators.len()), pairs.min(lent.rides.len()));
+            spoil(numbers, &mut lent.operators[from..], words[0]);
+            spoil(numbers, &mut lent.rides[to..], words[1]);
+        }
+    }
+}
+
+/// A limit: 0, around a size, or any.
+fn limit(numbers: &mut Numbers, size: u16) -> u16 {
+    match numbers.below(12) {
+        0 => 0,
+        1 => numbers.word(),
+        2 => size.saturating_add(1),
+        _ => 1 + numbers.below(size as usize + 1) as u16,
+    }
+}
+
+/// A small limit, so that a cover is often neither empty nor everybody.
+fn limits(numbers: &mut Numbers, head: Head) -> (u16, u16) {
+    let degree = |other: u16, size: u16| (head.pairs / size.max(1)).min(other);
+    let alpha = if numbers.one_in(3) { head.rides } else { degree(head.rides, head.operators) };
+    let beta = if numbers.one_in(3) { head.operators } else { degree(head.operators, head.rides) };
+    (limit(numbers, alpha), limit(numbers, beta))
+}
+
+/// Marks: all ones, or any, seldom with a word that is no mark.
+fn marks(numbers: &mut Numbers, head: Head) -> Vec<u16> {
+    let extra = numbers.of(&[0, 0, 1, 3]);
+    let mut marks: Vec<u16> = match numbers.below(3) {
+        0 => vec![1; head.nodes() + extra],
+        _ => (0..head.nodes() + extra).map(|_| !numbers.one_in(5) as u16).collect(),
+    };
+    if numbers.one_in(8) {
+        let word = numbers.of(&[2, 65535]);
+        spoil(numbers, &mut marks, word);
+    }
+    if numbers.one_in(10) {
+        resize(numbers, &mut marks, MARKS_MOST);
+    }
+    marks.truncate(MARKS_MOST);
+    marks
+}
+
+/// A message, mostly valid, whose stamp is often near those of others.
+fn message(numbers: &mut Numbers, head: Head) -> Message {
+    let number = |numbers: &mut Numbers, size: u16| match numbers.below(30) {
+        0 => size,
+        1 => numbers.word(),
+        _ => numbers.below(size.max(1) as usize) as u16,
+    };
+    Message {
+        kind: if numbers.one_in(25) { numbers.of(&[0, 3, 65535]) } else { numbers.of(&[GRANT, WITHDRAWAL]) },
+        operator: number(numbers, head.operators),
+        ride: number(numbers, head.rides),
+        stamp: match numbers.below(30) {
+            0 => 0,
+            1 => u32::MAX,
+            2 => numbers.next() as u32,
+            _ => START - 3 + numbers.below(40) as u32,
+        },
+    }
+}
+
+/// A board that is built, and then queried, peeled and sent messages; some calls are given damaged input.
+pub fn sequence(compared: &mut Compared, numbers: &mut Numbers, size: Size) {
+    let (n, m) = size.numbers(numbers);
+    let pairs = table(numbers, n, m);
+    let mut board = lent(numbers, n, m, &pairs);
+    let start = if numbers.one_in(20) { 0 } else { START };
+    if numbers.one_in(6) {
+        let mut damaged = board.clone();
+        damage(numbers, &mut damaged);
+        compared.build(&mut damaged, start);
+    }
+    compared.build(&mut board, start);
+    for _ in 0..size.calls() {
+        let kept = board.clone();
+        let damaged = numbers.one_in(6);
+        if damaged {
+            damage(numbers, &mut board);
+        }
+        match numbers.below(8) {
+            0 if damaged => {
+                compared.build(&mut board, START);
+            }
+            0..=2 => {
+                let (alpha, beta) = limits(numbers, board.head);
+                let mut marks = marks(numbers, board.head);
+                compared.query(&board, alpha, beta, &mut marks);
+            }
+            3..=4 => {
+                let (alpha, beta) = limits(numbers, board.head);
+                let mut marks = marks(numbers, board.head);
+                let steps = match numbers.below(4) {
+                    0 => 65535,
+                    1 => numbers.below(4) as u16,
+                    _ => numbers.below(board.head.nodes() + 1) as u16,
+                };
+                compared.peel(&board, &mut marks, alpha, beta, steps);
+            }
+            5..=6 => {
+                let one = message(numbers, board.head);
+                compared.message(&mut board, one);
+            }
+            _ => {
+                let count = numbers.below(size.messages() + 1);
+                let list: Vec<Message> = (0..count).map(|_| message(numbers, board.head)).collect();
+                let mut answers = vec![77; count + numbers.of(&[0, 0, 1, 4])];
+                if numbers.one_in(8) {
+                    resize(numbers, &mut answers, LIST_MOST);
+                }
+                compared.messages(&mut board, &list, &mut answers);
+            }
+        }
+        if damaged && !numbers.one_in(4) {
+            board = kept;
+        }
+    }
+}
+
+/// Gives messages to a board in this order, by message calls and message lists, now and then by a call that is lent too
+/// short a part.
+fn deliver(compared: &mut Compared, numbers: &mut Numbers, board: &mut Lent, messages: &[Message]) {
+    let mut rest = messages;
+    while !rest.is_empty() {
+        let count = 1 + numbers.below(rest.len().min(6));
+        let (first, others) = rest.split_at(count);
+        if numbers.one_in(6) && 0 < board.head.places() {
+            let whole = board.stamps.clone();
+            board.stamps.truncate(board.head.places() - 1);
+            compared.message(board, first[0]);
+            board.stamps = whole;
+        }
+        if numbers.one_in(2) {
+            for one in first {
+                compared.message(board, *one);
+            }
+        } else {
+            compared.messages(board, first, &mut vec![77; count]);
+        }
+        rest = others;
+    }
+}
+
+/// Demand 3 on the library itself: the same messages in two orders, one of them with repeats, leave the same board, the
+/// one that is worked out from the latest message of each pair.
+pub fn delivery(compared: &mut Compared, numbers: &mut Numbers, size: Size) {
+    let (n, m) = size.numbers(numbers);
+    let pairs = table(numbers, n, m);
+    let mut built = lent(numbers, n, m, &pairs);
+    if compared.build(&mut built, START) != 0 {
+        return;
+    }
+    let count = 2 + numbers.below(2 * size.messages());
+    let mut messages: Vec<Message> = (0..count).map(|_| message(numbers, built.head)).collect();
+
+    let mut latest: BTreeMap<(u16, u16), (u32, u16)> = pairs.iter().map(|pair| (*pair, (START, GRANT))).collect();
+    let is_valid = |one: &&Message| {
+        (one.kind == GRANT || one.kind == WITHDRAWAL) && one.operator < n && one.ride < m && one.stamp != 0
+    };
+    for one in messages.iter().filter(is_valid) {
+        let entry = latest.entry((one.operator, one.ride)).or_default();
+        *entry = (one.stamp, one.kind).max(*entry);
+    }
+    let listed: Vec<(u16, u16)> = latest.iter().filter(|entry| entry.1 .1 == GRANT).map(|entry| *entry.0).collect();
+    let mut expected = built.clone();
+    expected.head.pairs = listed.len() as u16;
+    for (place, pair) in listed.iter().enumerate() {
+        (expected.operators[place], expected.rides[place]) = *pair;
+    }
+    let head = expected.head;
+    reference::build(
+        head,
+        &mut expected.operators,
+        &mut expected.rides,
+        START,
+        &mut expected.stamps,
+        &mut expected.index,
+    );
+    expected.stamps[..head.places()].fill(0);
+    for ((operator, ride), (stamp, _)) in &latest {
+        expected.stamps[*operator as usize * m as usize + *ride as usize] = *stamp;
+    }
+
+    for repeated in [false, true] {
+        let mut board = built.clone();
+        if repeated {
+            let again = numbers.below(count);
+            messages.extend_from_within(..again);
+        }
+        numbers.shuffle(&mut messages);
+        deliver(compared, numbers, &mut board, &messages);
+        if board != expected {
+            compared.totals.differ("the board is not the one worked out from the latest messages");
+        }
+    }
+    compared.totals.deliveries += 1;
+}
