@@ -7,6 +7,7 @@ mod tables;
 
 use board::{Board, Memory, Message, Refusal};
 use lists::Lists;
+use std::cell::RefCell;
 use std::hint::black_box;
 use std::time::Instant;
 use tables::Tables;
@@ -62,9 +63,15 @@ impl Case {
     }
 }
 
-/// The median time of one call of each program in microseconds. The programs take turns, so that all see the same machine.
-fn medians(calls: usize, programs: &mut [&mut dyn FnMut()]) -> Vec<f64> {
-    let mut times = vec![Vec::new(); programs.len()];
+fn median(mut numbers: Vec<f64>) -> f64 {
+    numbers.sort_by(f64::total_cmp);
+    numbers[numbers.len() / 2]
+}
+
+/// The time of one call in microseconds, of each program in each round. The programs take turns, so that in a round all
+/// see the same machine.
+fn measure(calls: usize, programs: &mut [&mut dyn FnMut(); 3]) -> [Vec<f64>; 3] {
+    let mut times = [const { Vec::new() }; 3];
     for round in 0..ROUNDS + 2 {
         for (program, times) in programs.iter_mut().zip(&mut times) {
             let begin = Instant::now();
@@ -75,29 +82,36 @@ fn medians(calls: usize, programs: &mut [&mut dyn FnMut()]) -> Vec<f64> {
             }
         }
     }
-    let median = |mut times: Vec<f64>| {
-        times.sort_by(f64::total_cmp);
-        times[times.len() / 2]
-    };
-    times.into_iter().map(median).collect()
+    times
 }
 
-/// The limits of a query or a peel that keep some and drop some: alpha a third of the operators' mean degree, beta the
-/// level of the ride in the middle of that row.
+/// The limits of a query and a peel, under which at least half of the rides are dropped: alpha is two thirds of the
+/// operators' mean degree, beta one more than the level of the ride in the middle of that row.
 fn limits(case: &Case, board: &Board) -> (u16, u16) {
     let alpha = (case.pairs.len() / case.operators as usize * 2 / 3).max(1) as u16;
     let mut levels = board.row(alpha).unwrap()[case.operators as usize..].to_vec();
     levels.sort();
-    (alpha, levels[levels.len() / 2].max(1))
+    (alpha, levels[levels.len() / 2] + 1)
 }
 
-/// One line of the table: microseconds of the library, (a) and (b).
+/// One line of the table: microseconds of the library, (a) and (b), in each round.
 struct Line {
     call: &'static str,
     operators: u16,
     rides: u16,
     pairs: usize,
-    times: Vec<f64>,
+    times: [Vec<f64>; 3],
+}
+
+impl Line {
+    fn time(&self, program: usize) -> f64 {
+        median(self.times[program].clone())
+    }
+
+    /// The library's time over another program's: the median of the rounds' ratios.
+    fn ratio(&self, program: usize) -> f64 {
+        median(self.times[0].iter().zip(&self.times[program]).map(|(library, other)| library / other).collect())
+    }
 }
 
 fn run(case: &Case) -> Vec<Line> {
@@ -113,7 +127,7 @@ fn run(case: &Case) -> Vec<Line> {
     let (mut stamps, mut index) = (vec![0; places], vec![0; tables.index.len()]);
     let head = board::Head { operators: n, rides: m, pairs: case.pairs.len() as u16 };
     let mut lists = Lists::build(n, m, &case.pairs, START);
-    let times = medians(
+    let times = measure(
         10,
         &mut [
             &mut || board::build(head, &mut operators, &mut rides, START, &mut stamps, &mut index).unwrap(),
@@ -127,27 +141,27 @@ fn run(case: &Case) -> Vec<Line> {
     // Query, after the build.
     let mut board = Board::build(memory.parts(), n, m, &case.pairs, START).unwrap();
     let (alpha, beta) = limits(case, &board);
-    let (mut ours, mut plain) = (vec![0; case.nodes()], vec![0; case.nodes()]);
-    let times = medians(
-        2000,
-        &mut [
-            &mut || {
-                black_box(board.query(black_box(alpha), beta, &mut ours).unwrap());
-            },
-            &mut || {},
-            &mut || {
-                let alpha = black_box(alpha);
-                black_box(tables::query(n as usize, m as usize, black_box(&index), alpha, beta, &mut plain));
-            },
-        ],
-    );
-    assert!(ours == plain);
+    let marks = RefCell::new(vec![0; case.nodes()]);
+    let ask = || board.query(black_box(alpha), black_box(beta), &mut marks.borrow_mut()).unwrap();
+    let look = || {
+        let (n, m) = (n as usize, m as usize);
+        tables::query(n, m, black_box(&index), black_box(alpha), black_box(beta), &mut marks.borrow_mut())
+    };
+    let mut ask_it = || {
+        black_box(ask());
+    };
+    let mut look_at_it = || {
+        black_box(look());
+    };
+    let times = measure(2000, &mut [&mut ask_it, &mut || {}, &mut look_at_it]);
+    let (counts, asked) = (ask(), marks.replace(vec![0; case.nodes()]));
+    assert!((counts.operators, counts.rides) == look() && asked == *marks.borrow());
     lines.push(line("query", times));
 
     // Peel, from all ones, with all steps allowed.
     let (mut marks, mut same) = (Vec::new(), Vec::new());
     let (mut peeled, mut listed, mut again) = (None, None, None);
-    let times = medians(
+    let times = measure(
         10,
         &mut [
             &mut || {
@@ -162,7 +176,7 @@ fn run(case: &Case) -> Vec<Line> {
         ],
     );
     let (peeled, listed) = (peeled.unwrap(), listed.unwrap());
-    assert!(peeled.settled && marks == listed.0 && peeled.steps == listed.1 && marks == same && marks == ours);
+    assert!(peeled.settled && marks == listed.0 && peeled.steps == listed.1 && marks == same && marks == asked);
     assert!(again == Some((true, peeled.steps)));
     lines.push(line("peel", times));
 
@@ -173,9 +187,9 @@ fn run(case: &Case) -> Vec<Line> {
         case.messages[next[program] - 1]
     };
     let mut differ = [0u64; 3];
-    let turn = std::cell::RefCell::new(&mut turn);
+    let turn = RefCell::new(&mut turn);
     let [first, second, third] = &mut differ;
-    let times = medians(
+    let times = measure(
         case.messages.len() / (ROUNDS + 2),
         &mut [
             &mut || *first += board.message(turn.borrow_mut()(0)).unwrap() as u64,
@@ -203,20 +217,19 @@ fn print_lines(lines: &[Line]) {
     println!("| Call | Board | Pairs | library µs | (a) µs | (b) µs | library / (a) | library / (b) |");
     println!("|---|---|---:|---:|---:|---:|---:|---:|");
     for line in lines {
-        let [library, lists, same] = line.times[..] else { unreachable!() };
-        let (lists, ratio) = if line.call == "query" {
-            ("".to_string(), "".to_string())
-        } else {
-            (format!("{lists:.1}"), format!("{:.2}", library / lists))
-        };
         let digits = if line.call == "query" { 3 } else { 1 };
+        let (library, same) = (line.time(0), line.time(2));
+        let (lists, ratio) = match line.call {
+            "query" => ("".to_string(), "".to_string()),
+            _ => (format!("{:.1}", line.time(1)), format!("{:.2}", line.ratio(1))),
+        };
         println!(
             "| {} | {} × {} | {} | {library:.digits$} | {lists} | {same:.digits$} | {ratio} | {:.2} |",
             line.call,
             line.operators,
             line.rides,
             line.pairs,
-            library / same
+            line.ratio(2)
         );
     }
     println!();
@@ -224,7 +237,7 @@ fn print_lines(lines: &[Line]) {
 
 fn print_goal(lines: &[Line], call: &str, against: usize, name: &str, most: f64) {
     let line = lines.iter().find(|line| line.call == call && line.operators == 200 && line.pairs == 6000).unwrap();
-    let ratio = line.times[0] / line.times[against];
+    let ratio = line.ratio(against);
     let reached = if ratio <= most { "reached" } else { "NOT reached" };
     println!("- {call} at most {most} × {name}: {ratio:.2}, {reached}");
 }
@@ -276,7 +289,7 @@ fn main() {
         lines.extend(run(&Case::new(200, 60, pairs, messages)));
     }
     lines.sort_by_key(|line| ["build", "query", "peel", "message"].iter().position(|call| *call == line.call));
-    println!("Medians of {ROUNDS} rounds, in which the programs take turns.\n");
+    println!("Microseconds for one call, medians of {ROUNDS} rounds in which the programs take turns.\n");
     print_lines(&lines);
     println!("At 6,000 pairs:\n");
     print_goal(&lines, "build", 1, "(a)", 0.4);

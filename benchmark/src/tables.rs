@@ -281,7 +281,9 @@ fn mark(levels: &[u16], beta: u16, marks: &mut [u16]) -> u16 {
     count
 }
 
-/// A plain loop over the row of a query, for operators and then for rides: marks, and the counts.
+/// A plain loop over the row of a query, for operators and then for rides: marks, and the counts. It is called, as the
+/// library is, and not inlined.
+#[inline(never)]
 pub fn query(n: usize, m: usize, index: &[u16], alpha: u16, beta: u16, marks: &mut [u16]) -> (u16, u16) {
     let row = &index[(alpha as usize - 1) * (n + m)..alpha as usize * (n + m)];
     (mark(&row[..n], beta, &mut marks[..n]), mark(&row[n..], beta, &mut marks[n..]))
