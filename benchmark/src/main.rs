@@ -2,10 +2,11 @@
 //! rebuilt after each message, and (b) the library's own algorithm. Prints the tables of docs/BENCHMARK.md.
 
 mod lists;
+mod memory;
 mod stack;
 mod tables;
 
-use board::{Board, Memory, Message, Refusal};
+use board::{Board, Memory, Message};
 use lists::Lists;
 use std::cell::RefCell;
 use std::hint::black_box;
@@ -242,46 +243,6 @@ fn print_goal(lines: &[Line], call: &str, against: usize, name: &str, most: f64)
     println!("- {call} at most {most} × {name}: {ratio:.2}, {reached}");
 }
 
-/// The deepest stack of each call over several boards of 200 × 60, and its lent bytes.
-fn print_memory() {
-    let cases: Vec<Case> =
-        [0, 1, 3000, 6000, 12000].iter().map(|&count| Case::new(200, 60, count.max(1), 24)).collect();
-    let mut deepest = [0; 5];
-    let mut memory = Box::new(Memory::new());
-    let mut other = Box::new(Memory::new());
-    for case in &cases {
-        let pairs = &case.pairs;
-        let deep = stack::deepest(|| assert!(Board::build(other.parts(), 200, 60, pairs, START).is_ok()));
-        let mut board = Board::build(memory.parts(), 200, 60, pairs, START).unwrap();
-        let (alpha, beta) = limits(case, &board);
-        let mut marks = [1; 260];
-        let mut answers = [0; 12];
-        let peeled = stack::deepest(|| assert!(board.peel(&mut marks, alpha, beta, u16::MAX).is_ok()));
-        let queried = stack::deepest(|| assert!(board.query(alpha, beta, &mut marks).is_ok()));
-        let taken = case.messages[..12].iter().map(|&one| stack::deepest(|| assert!(board.message(one).is_ok()))).max();
-        let listed = stack::deepest(|| board.messages(&case.messages[12..], &mut answers).unwrap());
-        assert!(answers.iter().all(|&answer| Refusal::check(answer).is_ok()));
-        for (most, now) in deepest.iter_mut().zip([deep, queried, peeled, taken.unwrap(), listed]) {
-            *most = now.max(*most);
-        }
-    }
-    let (pairs, index, marks) = (12000 * 2, 15600 * 2, 260 * 2);
-    let board = 2 * pairs + 12000 * 4 + index;
-    let lent = [
-        (format!("{board}"), "pair arrays, stamps, index"),
-        (format!("{}", index + marks), "index, marks"),
-        (format!("{}", 2 * pairs + marks), "pair arrays, marks"),
-        (format!("{}", 6 + board), "head, pair arrays, stamps, index"),
-        (format!("{} + 14 for each message", 6 + board), "as message, the messages and their answers"),
-    ];
-    println!("| Call | Deepest stack, bytes | Lent, bytes | What is lent |");
-    println!("|---|---:|---:|---|");
-    let names = ["build", "query", "peel", "message", "message list"];
-    for ((name, deep), (bytes, what)) in names.iter().zip(deepest).zip(lent) {
-        println!("| {name} | {deep} | {bytes} | {what} |");
-    }
-}
-
 fn main() {
     let messages = 8 * (ROUNDS + 2);
     let mut lines = Vec::new();
@@ -304,5 +265,5 @@ fn main() {
     lines.sort_by_key(|line| ["build", "query", "peel", "message"].iter().position(|call| *call == line.call));
     print_lines(&lines);
     println!("Memory at 200 × 60:\n");
-    print_memory();
+    memory::print();
 }
