@@ -8,11 +8,7 @@ static struct {
     uint16_t operators[BOARD_PAIR_PLACES(200, 60)], rides[BOARD_PAIR_PLACES(200, 60)];
     uint32_t stamps[BOARD_STAMP_PLACES(200, 60)];
     uint16_t index[BOARD_INDEX_PLACES(200, 60)], marks[BOARD_MARK_PLACES(200, 60)];
-} b = {
-    .head = {200, 60, 3}, /* the pairs (0, 5), (3, 5) and (17, 4) */
-    .operators = {0, 3, 17},
-    .rides = {5, 5, 4},
-};
+} b = {{200, 60, 3}, {0, 3, 17}, {5, 5, 4}, {0}, {0}, {0}}; /* the pairs (0, 5), (3, 5) and (17, 4) */
 
 int main(void) {
     uint16_t code = board_build(b.head, b.operators, BOARD_LENGTH(b.operators), b.rides, BOARD_LENGTH(b.rides), 1,

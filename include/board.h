@@ -15,12 +15,12 @@
  *         uint16_t operators[BOARD_PAIR_PLACES(200, 60)], rides[BOARD_PAIR_PLACES(200, 60)];
  *         uint32_t stamps[BOARD_STAMP_PLACES(200, 60)];
  *         uint16_t index[BOARD_INDEX_PLACES(200, 60)], marks[BOARD_MARK_PLACES(200, 60)];
- *     } b = { .head = { 200, 60, 0 } };
+ *     } b = {{200, 60, 0}, {0}, {0}, {0}, {0}, {0}};
  *
  *     uint16_t code = board_build(b.head, b.operators, BOARD_LENGTH(b.operators), b.rides, BOARD_LENGTH(b.rides), 1,
  *                                 b.stamps, BOARD_LENGTH(b.stamps), b.index, BOARD_LENGTH(b.index));
  *
- *     BoardMessage grant = { BOARD_GRANT, 17, 5, 1700000000 };
+ *     BoardMessage grant = {BOARD_GRANT, 17, 5, 1700000000};
  *     BoardAnswer answer = board_message(&b.head, b.operators, BOARD_LENGTH(b.operators), b.rides,
  *                                        BOARD_LENGTH(b.rides), b.stamps, BOARD_LENGTH(b.stamps), b.index,
  *                                        BOARD_LENGTH(b.index), grant);
