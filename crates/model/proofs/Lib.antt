@@ -9,4 +9,5 @@ pub mod Query
 pub mod Pairs
 pub mod Refusal
 pub mod Taken
+pub mod EndToEnd
 pub mod Samples

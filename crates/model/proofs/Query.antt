@@ -19,7 +19,7 @@ use Rattle.model.proofs.Cover.{cover-core, cover-low-α}
 use Rattle.model.proofs.Level.{level-largest, level-in, level-place}
 
 -- a set that agrees with the core on the nodes is the core
-core-ext : (g : Graph) (α β : ℕ) (s t : ℕ → Bool) → ((x : ℕ) → x < nodes g → s x ≡ t x) → Core g α β s → Core g α β t
+pub core-ext : (g : Graph) (α β : ℕ) (s t : ℕ → Bool) → ((x : ℕ) → x < nodes g → s x ≡ t x) → Core g α β s → Core g α β t
 core-ext g α β s t same c =
     record {
       inside = λ x h m. tt;

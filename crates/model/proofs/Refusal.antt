@@ -17,6 +17,10 @@ use Rattle.model.proofs.Pairs.{Pairs, listed-place, table-pairs, pairs-
 
 -- ---- the lowest number that applies
 
+pub lowest-nil : lowest-number [] ≡ 0
+unfolding lowest-number
+lowest-nil = refl
+
 pub lowest-here : (k : ℕ) (t : Bool) (cs : List (ℕ × Bool)) → T t → lowest-number ((k, t) ∷ cs) ≡ k
 unfolding lowest-number
 lowest-here k true cs h = refl

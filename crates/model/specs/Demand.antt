@@ -9,8 +9,9 @@ use lib.ListN.{length, getD, set, drop, replicate}
 use Rattle.model.specs.declared.Head.{Head}
 use Rattle.model.specs.Count.{count, some}
 use Rattle.model.specs.Graph.{Graph, nodes, degree, everybody, Inside, Largest, Core, marked, short, settled, removals, peel, cover, level, index-of}
-use Rattle.model.specs.Layout.{graph}
-use Rattle.model.specs.Calls.{query-marks}
+use Rattle.model.specs.Layout.{Board, mark-places, graph}
+use Rattle.model.specs.Refusal.{build-refusal}
+use Rattle.model.specs.Calls.{QueryOutcome, query-marks, board-build, board-query}
 
 -- how many nodes are marked
 abbrev pub members : Graph → List ℕ → ℕ
@@ -73,6 +74,23 @@ QueryIsCore =
     1 ≤ α →
     1 ≤ β →
     Core (graph h operators rides) α β (marked (query-marks h (index-of (graph h operators rides)) α β))
+
+-- what a query gives is the (α, β)-core, with its sizes
+pub record IsCore (g : Graph) (α β : ℕ) (o : QueryOutcome) : Type 0 where
+  pub code : o .answer .code ≡ 0
+  pub core : Core g α β (marked (o .marks))
+  pub operators : o .answer .operators ≡ count (g .operators) (marked (o .marks))
+  pub rides : o .answer .rides ≡ count (g .rides) (λ v. marked (o .marks) (g .operators + v))
+
+-- Demand 2 from end to end: build an accepted table, query any α and β from 1, and the marks are the core, the counts its sizes
+abbrev pub BuildThenQuery : Type 0
+BuildThenQuery =
+    (b : Board) (start α β : ℕ) (marks : List ℕ) →
+    build-refusal b start ≡ 0 →
+    1 ≤ α →
+    1 ≤ β →
+    mark-places (b .head) ≤ length marks →
+    IsCore (graph (b .head) (b .operators) (b .rides)) α β (board-query (b .head) (board-build b start .board .index) α β marks)
 
 -- the clearances c are those of g with the pair (u, v) added
 pub record Added (g : Graph) (c : ℕ → ℕ → Bool) (u v : ℕ) : Type 0 where

@@ -14,7 +14,7 @@ use Rattle.model.specs.Count.{some}
 use Rattle.model.specs.Layout.{Board, pair-places, mark-places, index-places}
 use Rattle.model.specs.Refusal.{refused-1, refused-2, refused-3, refused-4, refused-5, refused-9, refused-11, refused-12, board-short, lowest-number, table-cases, build-refusal, query-refusal, peel-refusal}
 use Rattle.model.proofs.Count.{by-test, test-true, test-false, some-holds, some-witness, or-left, or-right, or-cases}
-use Rattle.model.proofs.Refusal.{lowest-here, lowest-skip, lowest-none, enough, not-less}
+use Rattle.model.proofs.Refusal.{lowest-nil, lowest-here, lowest-skip, lowest-none, enough, not-less}
 
 -- a product of two 16-bit numbers
 pub product-fits : (a b : ℕ) → a < 65536 → b < 65536 → a * b < 4294967296
@@ -23,10 +23,6 @@ product-fits a b h l = omega (arith, mul-le-mul-right b (let k : a ≤ 65535 = o
 -- of 200 and 60
 pub product-small : (a b : ℕ) → a ≤ 200 → b ≤ 60 → a * b ≤ 12000
 product-small a b h l = omega (arith, mul-le-mul-right b h)
-
-pub lowest-nil : lowest-number [] ≡ 0
-unfolding lowest-number
-lowest-nil = refl
 
 -- ---- 3
 

@@ -14,9 +14,9 @@ use Rattle.model.specs.Count.{some}
 use Rattle.model.specs.Layout.{Board, pair-places, listed}
 use Rattle.model.specs.Refusal.{refused-1, refused-2, refused-3, refused-4, refused-5, refused-6, refused-7, refused-8, refused-9, refused-10, stamp-place, last-kind, board-short, lowest-number, table-cases, message-refusal, list-refusal}
 use Rattle.model.proofs.Count.{test-true, test-false, some-holds, some-witness, or-left, or-right, or-cases}
-use Rattle.model.proofs.Refusal.{lowest-here, lowest-skip, lowest-none, enough, table-none, Valid, valid-kind, valid-pair, valid-stamp, tests-valid}
+use Rattle.model.proofs.Refusal.{lowest-nil, lowest-here, lowest-skip, lowest-none, enough, table-none, Valid, valid-kind, valid-pair, valid-stamp, tests-valid}
 use Rattle.tables.specs.Table.{AcceptedPairs}
-use Rattle.refusals.proofs.Chain.{Positive, lowest-nil, lowest-first, lowest-rest, table-first, table-rest}
+use Rattle.refusals.proofs.Chain.{Positive, lowest-first, lowest-rest, table-first, table-rest}
 
 -- where none of 1 to 5 applies to a pair table that is long enough, it is accepted
 pub table-accepted : (h : Head) (short : Bool) (operators rides : List ℕ) (cs : List (ℕ × Bool)) → lowest-number (table-cases h short operators rides ++ cs) ≡ 0 → pair-places h ≤ length operators → pair-places h ≤ length rides → AcceptedPairs h operators rides
