@@ -1,0 +1,4 @@
+// Replays builds, queries and peels (reference/README.md).
+fn main() {
+    replay::run();
+}
