@@ -128,6 +128,15 @@ fn fill_index(n: usize, m: usize, pairs: usize, operators: &[u16], rides: &[u16]
     differ
 }
 
+/// The lowest node that falls short: operators first, then rides.
+fn lowest_short(n: usize, marks: &[u16], degrees: &[u8], alpha: u16, beta: u16) -> Option<usize> {
+    let short = |marks: &[u16], degrees: &[u8], limit: u16| {
+        marks.iter().zip(degrees).position(|(&mark, &degree)| mark == 1 && (degree as u16) < limit)
+    };
+    let ride = || short(&marks[n..], &degrees[n..], beta).map(|ride| n + ride);
+    short(&marks[..n], &degrees[..n], alpha).or_else(ride)
+}
+
 impl Tables {
     /// Room for a board; its pairs are in the pair arrays.
     pub fn new(operators: u16, rides: u16, pairs: &[(u16, u16)]) -> Tables {
@@ -251,10 +260,10 @@ impl Tables {
                 common(&by_ride[(x - n) * 200..(x - n) * 200 + n], &marks[..n])
             };
         }
+        let degrees = &mut degrees[..n + m];
         let mut steps = 0;
         loop {
-            let short = |x: &usize| marks[*x] == 1 && (degrees[*x] as u16) < if *x < n { alpha } else { beta };
-            let Some(x) = (0..n + m).find(short) else {
+            let Some(x) = lowest_short(n, marks, degrees, alpha, beta) else {
                 return Some((true, steps));
             };
             if steps == allowed {
