@@ -7,10 +7,10 @@ use Rattle.replay.proofs.stream.Statement.{statement}
 use Rattle.replay.proofs.stream.Tie as tie
 
 abbrev Inv-loop : tie.InvT-loop
-Inv-loop buffer₀ operators₀ rides₀ stamps₀ index₀ marks₀ left₀ buffer operators rides stamps index marks left = (length buffer ≡ length buffer₀) × (length operators ≡ length operators₀) × (length rides ≡ length rides₀) × (length stamps ≡ length stamps₀) × (length index ≡ length index₀) × (length marks ≡ length marks₀)
+Inv-loop buffer₀ operators₀ rides₀ stamps₀ index₀ marks₀ answers₀ left₀ buffer operators rides stamps index marks answers left = (length buffer ≡ length buffer₀) × (length operators ≡ length operators₀) × (length rides ≡ length rides₀) × (length stamps ≡ length stamps₀) × (length index ≡ length index₀) × (length marks ≡ length marks₀) × (length answers ≡ length answers₀)
 
 abbrev μ-loop : tie.MeasureT-loop
-μ-loop buffer₀ operators₀ rides₀ stamps₀ index₀ marks₀ left₀ buffer operators rides stamps index marks left = left
+μ-loop buffer₀ operators₀ rides₀ stamps₀ index₀ marks₀ answers₀ left₀ buffer operators rides stamps index marks answers left = left
 
 loop-holds : tie.Need-loop-holds Inv-loop μ-loop
 loop-holds c = search needs
@@ -45,11 +45,11 @@ same-length-5 c = search needs
 same-length-6 : tie.Need-same-length-6 Inv-loop μ-loop
 same-length-6 c = search needs
 
-returns : tie.Need-returns Inv-loop μ-loop
-returns c = search needs
-
 same-length-7 : tie.Need-same-length-7 Inv-loop μ-loop
 same-length-7 c = search needs
+
+returns : tie.Need-returns Inv-loop μ-loop
+returns c = search needs
 
 same-length-8 : tie.Need-same-length-8 Inv-loop μ-loop
 same-length-8 c = search needs
@@ -65,6 +65,12 @@ same-length-11 c = search needs
 
 same-length-12 : tie.Need-same-length-12 Inv-loop μ-loop
 same-length-12 c = search needs
+
+same-length-13 : tie.Need-same-length-13 Inv-loop μ-loop
+same-length-13 c = search needs
+
+same-length-14 : tie.Need-same-length-14 Inv-loop μ-loop
+same-length-14 c = search needs
 
 returns-2 : tie.Need-returns-2 Inv-loop μ-loop
 returns-2 c = search needs
@@ -86,11 +92,13 @@ stream-spec =
     same-length-4
     same-length-5
     same-length-6
-    returns
     same-length-7
+    returns
     same-length-8
     same-length-9
     same-length-10
     same-length-11
     same-length-12
+    same-length-13
+    same-length-14
     returns-2)
