@@ -1,6 +1,6 @@
 //! The board of document 01, written again from that document and Definition 2.1 of document 000 alone, to compare
-//! the proved library with. Where a slow way is the clearer one it is taken: a cover is found by repeated removal, a
-//! level by trying every β.
+//! the proved library with. Where a slow way is the clearer one it is taken: a cover is found by repeated removal, and
+//! levels by one cover after another.
 
 pub mod frames;
 
