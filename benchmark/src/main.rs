@@ -139,14 +139,15 @@ fn run(case: &Case) -> Vec<Line> {
     assert!(index == lists.index && index == tables.index && stamps == tables.stamps);
     lines.push(line("build", times));
 
-    // Query, after the build.
+    // Query, after the build. Both read the board's index and write the same marks.
     let mut board = Board::build(memory.parts(), n, m, &case.pairs, START).unwrap();
     let (alpha, beta) = limits(case, &board);
     let marks = RefCell::new(vec![0; case.nodes()]);
     let ask = || board.query(black_box(alpha), black_box(beta), &mut marks.borrow_mut()).unwrap();
+    let levels = board.words().3;
     let look = || {
         let (n, m) = (n as usize, m as usize);
-        tables::query(n, m, black_box(&index), black_box(alpha), black_box(beta), &mut marks.borrow_mut())
+        tables::query(n, m, black_box(levels), black_box(alpha), black_box(beta), &mut marks.borrow_mut())
     };
     let mut ask_it = || {
         black_box(ask());

@@ -18,72 +18,73 @@ use Rattle.model.specs.Graph.{marked}
 use Rattle.model.specs.Layout.{mark-places, index-places, over}
 use Rattle.model.specs.Refusal.{refused-1, refused-2, refused-3, refused-11, query-refusal}
 use Rattle.model.specs.Calls.{QueryOutcome, query-marks, counts, board-query}
-use Rattle.model.proofs.Count.{or-left, or-right, count-ext, count-zero, length-values, getD-values}
+use Rattle.model.proofs.Count.{or-left, or-right, bit-le, bit-test, count-append, count-ext, count-zero, length-values, getD-values}
 use Rattle.model.proofs.Store.{part-length, part-at, put-before, put-at, front-at, front-after, over-is}
 use Rattle.model.proofs.Refusal.{lowest-none, enough}
 use Rattle.model.proofs.Query.{query-marked}
 use Rattle.levels.proofs.Side.{row-inside}
 use Rattle.board.specs.Words.{Marked, RowMarked, queried}
 
-module _ (row marks : List ℕ) (n β : ℕ) (h : n ≤ length row) (l : length row ≤ length marks) (o r : ℕ) (ops rides : List ℕ) (mo : Marked (take (n - 0) row) β o ops) (lo : length ops ≡ length (take (n - 0) marks)) where
+-- a mark that is 0 or 1 counts itself
+pub bit-of : (z : ℕ) → z ≤ 1 → bit (eqb z 1) ≡ z
+bit-of zero l = refl
+bit-of (suc zero) l = refl
+bit-of (suc (suc z)) l = absurd (let k : ⊥ = omega arith in k)
+
+-- ---- one row
+
+module _ (row marks : List ℕ) (n β : ℕ) (h : n ≤ length row) (l : length row ≤ length marks) (all : ℕ) (words : List ℕ) (m : Marked row β all words) (same : length words ≡ length (take (length row - 0) marks)) where
   abbrev w : ℕ
   w = length row
 
-  abbrev first : List ℕ
-  first = ops ++ drop (n - 0) marks
+  abbrev done : List ℕ
+  done = words ++ drop (w - 0) marks
 
-  ops-long : length ops ≡ n
-  ops-long = lo ∙ simp length-take (omega arith)
+  -- the marks of the rides
+  abbrev part : List ℕ
+  part = take (w - n) (drop n done)
 
-  part-long : length (take (n - 0) row) ≡ n
-  part-long = simp length-take (omega arith)
+  words-long : length words ≡ w
+  words-long = same ∙ simp length-take (omega arith)
 
-  first-long : length first ≡ length marks
-  first-long = length-append ops (drop (n - 0) marks) ∙ omega (arith, ops-long, length-drop (n - 0) marks)
+  done-at : (i : ℕ) → i < w → getD done i 0 ≡ bit (leb β (getD row i 0))
+  done-at i k = List·getD-append words (drop (w - 0) marks) 0 i (omega (arith, words-long)) ∙ m .marks-are i k
 
-  module _ (mr : Marked (take (w - n) (drop n row)) β r rides) (lr : length rides ≡ length (take (w - n) (drop n first))) where
-    abbrev done : List ℕ
-    done = take n first ++ (rides ++ drop (w - n) (drop n first))
+  pub part-long : length part ≡ w - n
+  part-long = simp (length-take, length-drop, length-append) (omega (arith, words-long))
 
-    rides-part : length (take (w - n) (drop n row)) ≡ w - n
-    rides-part = simp (length-take, length-drop) (omega arith)
+  part-at-ride : (i : ℕ) → i < w - n → getD part i 0 ≡ bit (leb β (getD row (n + i) 0))
+  part-at-ride i k = getD-take (w - n) (drop n done) i 0 k ∙ getD-drop n done i 0 ∙ done-at (n + i) (omega arith)
 
-    rides-long : length rides ≡ w - n
-    rides-long = lr ∙ simp (length-take, length-drop) (omega (arith, first-long))
+  pub part-bits : (i : ℕ) → i < length part → getD part i 0 ≤ 1
+  part-bits i k = let l : i < w - n = omega (arith, part-long) in omega (arith, part-at-ride i l, bit-le (leb β (getD row (n + i) 0)))
 
-    done-at : (i : ℕ) → i < w → getD done i 0 ≡ bit (leb β (getD row i 0))
-    done-at i k =
-        elim (decLt i n) [
-          | yes b ↦
-              put-before first rides (drop (w - n) (drop n first)) n (omega (arith, first-long)) i 0 b ∙
-              List·getD-append ops (drop (n - 0) marks) 0 i (omega (arith, ops-long)) ∙
-              mo .marks-are i (omega (arith, part-long)) ∙
-              ap (λ (z : ℕ). bit (leb β z)) (getD-take (n - 0) row i 0 (omega arith))
-          | no b ↦
-              (let e : n + (i - n) ≡ i = omega arith in
-              subst (λ (z : ℕ). getD done z 0 ≡ bit (leb β (getD row z 0))) e
-              (put-at first rides (drop (w - n) (drop n first)) n (omega (arith, first-long)) (i - n) 0 (omega (arith, rides-long)) ∙
-              mr .marks-are (i - n) (omega (arith, rides-part)) ∙
-              ap (λ (z : ℕ). bit (leb β z)) (getD-take (w - n) (drop n row) (i - n) 0 (omega arith) ∙ getD-drop n row (i - n) 0)))
-        ]
+  module _ (r : ℕ) (counted : r ≡ count (length part) (marked part)) where
+    rides-are : r ≡ count (w - n) (λ i. leb β (getD row (n + i) 0))
+    rides-are =
+        counted ∙
+        ap (λ (k : ℕ). count k (marked part)) part-long ∙
+        count-ext (marked part) (λ (i : ℕ). leb β (getD row (n + i) 0)) (w - n) (λ i k. ap (λ (z : ℕ). eqb z 1) (part-at-ride i k) ∙ bit-test (leb β (getD row (n + i) 0)))
 
-    pub row-marked : RowMarked row n β marks (record { code = 0; operators = o; rides = r }) done
+    all-is : all ≡ count n (λ i. leb β (getD row i 0)) + r
+    all-is =
+        m .counted ∙
+        ap (λ (k : ℕ). count k (λ (i : ℕ). leb β (getD row i 0))) (let e : w ≡ n + (w - n) = omega arith in e) ∙
+        count-append (λ (i : ℕ). leb β (getD row i 0)) n (w - n) ∙
+        ap (λ (k : ℕ). count n (λ (i : ℕ). leb β (getD row i 0)) + k) (sym rides-are)
+
+    pub rides-le : r ≤ all
+    rides-le = omega (arith, all-is)
+
+    pub row-marked : RowMarked row n β marks (record { code = 0; operators = all - r; rides = r }) done
     row-marked =
         record {
           code = refl;
-          operators = mo .counted ∙ ap (λ (k : ℕ). count k (λ (i : ℕ). leb β (getD (take (n - 0) row) i 0))) part-long ∙ count-ext (λ (i : ℕ). leb β (getD (take (n - 0) row) i 0)) (λ (i : ℕ). leb β (getD row i 0)) n (λ i k. ap (leb β) (getD-take (n - 0) row i 0 (omega arith)));
-          rides = mr .counted ∙ ap (λ (k : ℕ). count k (λ (i : ℕ). leb β (getD (take (w - n) (drop n row)) i 0))) rides-part ∙ count-ext (λ (i : ℕ). leb β (getD (take (w - n) (drop n row)) i 0)) (λ (i : ℕ). leb β (getD row (n + i) 0)) (w - n) (λ i k. ap (leb β) (getD-take (w - n) (drop n row) i 0 k ∙ getD-drop n row i 0));
+          operators = omega (arith, all-is);
+          rides = rides-are;
           marks-are = done-at;
-          tail = drop-put n w first rides h (omega (arith, first-long)) rides-long ∙ tail-first;
+          tail = drop-at words (drop (w - 0) marks) w words-long ∙ ap (λ (k : ℕ). drop k marks) (let e : w - 0 ≡ w = omega arith in e);
         }
-      where
-        tail-first : drop w first ≡ drop w marks
-        tail-first =
-            ap (λ (k : ℕ). drop k first) (let e : w ≡ n + (w - n) = omega arith in e) ∙
-            sym (drop-drop (w - n) n first) ∙
-            ap (drop (w - n)) (drop-at ops (drop (n - 0) marks) n ops-long) ∙
-            drop-drop (w - n) (n - 0) marks ∙
-            ap (λ (k : ℕ). drop k marks) (let e : n - 0 + (w - n) ≡ w = omega arith in e)
 
 -- ---- the outcome of a query that is not refused
 

@@ -1,10 +1,10 @@
 // The board's calls: build, query and peel. Each answers document 01's number, and leaves the lent parts as the definitions say.
 ghost use mathlib.Core.Path.{_≡_};
 ghost use Prim.Native.Nat.{ℕ, _+_, _*_, _<_, _≤_};
-ghost use lib.Dec.{leb};
+ghost use lib.Dec.{ltb};
 ghost use lib.ListN.{length, getD, drop};
-ghost use Rattle.model.specs.Count.{bit};
-ghost use Rattle.model.specs.Graph.{limits};
+ghost use Rattle.model.specs.Count.{bit, count};
+ghost use Rattle.model.specs.Graph.{limits, marked};
 ghost use Rattle.model.specs.Layout.{lent, listed, graph, mark-places};
 ghost use Rattle.model.specs.Calls.{board-build, board-query, peeled, board-peel};
 ghost use Rattle.tables.specs.Table.{InRange, AcceptedPairs};
@@ -80,23 +80,24 @@ pub extern "C" fn board_build(
     0
 }
 
-// 1 where a level is at least beta.
-fn mark(level: u16, beta: u16) -> u16
-    ensures { λ r. ⌜ r ≡ bit (leb beta level) ⌝ }
+// 1 where a level is above another.
+fn mark(level: u16, below: u16) -> u16
+    ensures { λ r. ⌜ r ≡ bit (ltb below level) ⌝ }
 {
-    if beta <= level { 1 } else { 0 }
+    if below < level { 1 } else { 0 }
 }
 
 // Marks the nodes whose level is at least beta, and counts them.
 fn mark_levels(levels: &[u16], beta: u16, marks: &mut [u16]) -> u16
-    requires { ⌜ (length (now marks) ≡ length (now levels)) × (length (now levels) ≤ 260) ⌝ }
+    requires { ⌜ (1 ≤ beta) × (length (now marks) ≡ length (now levels)) × (length (now levels) ≤ 260) ⌝ }
     ensures { λ r. ⌜ Marked (now (levels .entry)) beta r (now (marks .exit)) ⌝ }
 {
     let n = marks.len();
+    let below = beta - 1;
     let mut count = 0;
     let mut i = 0;
     while i < n {
-        let m = mark(levels[i], beta);
+        let m = mark(levels[i], below);
         marks[i] = m;
         count += m;
         i += 1;
@@ -104,29 +105,33 @@ fn mark_levels(levels: &[u16], beta: u16, marks: &mut [u16]) -> u16
     count
 }
 
-// Unmarks everybody.
-fn mark_nobody(marks: &mut [u16])
-    ensures { λ _. ⌜ ((i : ℕ) → i < length (now (marks .entry)) → getD (now (marks .exit)) i 0 ≡ 0) ⌝ }
+// How many marks are 1, where all are 0 or 1.
+fn count_marks(marks: &[u16]) -> u16
+    requires { ⌜ length (now marks) ≤ 260 ⌝ }
+    requires { ⌜ ((i : ℕ) → i < length (now marks) → getD (now marks) i 0 ≤ 1) ⌝ }
+    ensures { λ r. ⌜ r ≡ count (length (now (marks .entry))) (marked (now (marks .entry))) ⌝ }
 {
     let n = marks.len();
+    let mut count = 0;
     let mut i = 0;
     while i < n {
-        marks[i] = 0;
+        count += marks[i];
         i += 1;
     }
+    count
 }
 
 // Marks the nodes of one row: n operators, then the rides.
 fn query_row(row: &[u16], n: usize, beta: u16, marks: &mut [u16]) -> Counts
-    requires { ⌜ (n ≤ length (now row)) × (length (now row) ≤ length (now marks)) × (length (now row) ≤ 260) ⌝ }
+    requires { ⌜ (n ≤ length (now row)) × (length (now row) ≤ length (now marks)) × (length (now row) ≤ 260) × (1 ≤ beta) ⌝ }
     ensures { λ r. ⌜ RowMarked (now (row .entry)) n beta (now (marks .entry)) r (now (marks .exit)) ⌝ }
 {
     let w = row.len();
-    let operators = mark_levels(&row[0..n], beta, &mut marks[0..n]);
-    let rides = mark_levels(&row[n..w], beta, &mut marks[n..w]);
+    let all = mark_levels(row, beta, &mut marks[0..w]);
+    let rides = count_marks(&marks[n..w]);
     Counts {
         code: 0,
-        operators,
+        operators: all - rides,
         rides,
     }
 }
@@ -153,7 +158,7 @@ pub extern "C" fn board_query(
     let n = head.operators as usize;
     let w = n + head.rides as usize;
     if head.rides < alpha {
-        mark_nobody(&mut marks[0..w]);
+        levels::clear(&mut marks[0..w]);
         return Counts {
             code: 0,
             operators: 0,

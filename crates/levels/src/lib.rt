@@ -266,7 +266,7 @@ fn largest_of(degrees: Degrees, n: usize) -> u8
 }
 
 // Zeroes a row.
-fn clear(row: &mut [u16])
+pub fn clear(row: &mut [u16])
     ensures { λ _. ⌜ ((i : ℕ) → i < length (now (row .entry)) → getD (now (row .exit)) i 0 ≡ 0) ⌝ }
 {
     let n = row.len();

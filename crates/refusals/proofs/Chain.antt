@@ -148,39 +148,21 @@ limits-positive α β p q t = or-cases (eqb α 0) (eqb β 0) t (λ k. p (eqb→e
 
 -- ---- query
 
-module _ (h : Head) (index : List ℕ) (α β : ℕ) (marks : List ℕ) where
-  abbrev short : Bool
-  short = refused-3 (index-places h) index || refused-3 (mark-places h) marks
+-- a number that is tested twice in a row
+lowest-twice : (k : ℕ) (a b : Bool) (cs : List (ℕ × Bool)) → lowest-number ((k, a) ∷ (k, b) ∷ cs) ≡ lowest-number ((k, a || b) ∷ cs)
+unfolding lowest-number
+lowest-twice k true b cs = refl
+lowest-twice k false b cs = refl
 
-  pub query-1 : 200 < h .operators → 1 ≡ query-refusal h index α β marks
+-- what `lowest` gives: a number where it applies, else the one after it
+abbrev pub Lowest : ℕ → Bool → ℕ → ℕ → Type 0
+Lowest k t after r = (cs : List (ℕ × Bool)) → after ≡ lowest-number cs → r ≡ lowest-number ((k, t) ∷ cs)
+
+module _ (h : Head) (index : List ℕ) (α β : ℕ) (marks : List ℕ) (r₁ r₂ r₃ r₄ r₅ r₆ : ℕ) where
+  pub query-lowest : Lowest 11 (eqb β 0) 0 r₁ → Lowest 11 (eqb α 0) r₁ r₂ → Lowest 3 (ltb (length marks) (mark-places h)) r₂ r₃ → Lowest 3 (ltb (length index) (index-places h)) r₃ r₄ → Lowest 2 (refused-2 h) r₄ r₅ → Lowest 1 (refused-1 h) r₅ r₆ → r₆ ≡ query-refusal h index α β marks
   unfolding query-refusal
-  query-1 k = sym (lowest-here 1 (refused-1 h) _ (lt→ltb 200 (h .operators) k))
-
-  module _ (a : h .operators ≤ 200) where
-    pub query-2 : 60 < h .rides → 2 ≡ query-refusal h index α β marks
-    unfolding query-refusal
-    query-2 k = sym (lowest-skip 1 (refused-1 h) _ (not-less 200 (h .operators) a) ∙ lowest-here 2 (refused-2 h) _ (lt→ltb 60 (h .rides) k))
-
-    module _ (b : h .rides ≤ 60) where
-      two : query-refusal h index α β marks ≡ lowest-number ((3, short) ∷ (11, refused-11 α β) ∷ [])
-      unfolding query-refusal
-      two = lowest-skip 1 (refused-1 h) _ (not-less 200 (h .operators) a) ∙ lowest-skip 2 (refused-2 h) _ (not-less 60 (h .rides) b)
-
-      pub query-index : length index < index-places h → 3 ≡ query-refusal h index α β marks
-      query-index k = sym (two ∙ lowest-here 3 short _ (or-left (refused-3 (index-places h) index) (refused-3 (mark-places h) marks) (lt→ltb (length index) (index-places h) k)))
-
-      pub query-marks-short : length marks < mark-places h → 3 ≡ query-refusal h index α β marks
-      query-marks-short k = sym (two ∙ lowest-here 3 short _ (or-right (refused-3 (index-places h) index) (refused-3 (mark-places h) marks) (lt→ltb (length marks) (mark-places h) k)))
-
-      module _ (k : index-places h ≤ length index) (l : mark-places h ≤ length marks) where
-        three : query-refusal h index α β marks ≡ lowest-number ((11, refused-11 α β) ∷ [])
-        three = two ∙ lowest-skip 3 short _ (λ t. or-cases (refused-3 (index-places h) index) (refused-3 (mark-places h) marks) t (not-less (length index) (index-places h) k) (not-less (length marks) (mark-places h) l))
-
-        pub query-11 : T (refused-11 α β) → 11 ≡ query-refusal h index α β marks
-        query-11 t = sym (three ∙ lowest-here 11 (refused-11 α β) [] t)
-
-        pub query-0 : α ≢ 0 → β ≢ 0 → 0 ≡ query-refusal h index α β marks
-        query-0 p q = sym (three ∙ lowest-skip 11 (refused-11 α β) [] (limits-positive α β p q) ∙ lowest-nil)
+  query-lowest l₁ l₂ l₃ l₄ l₅ l₆ =
+      l₆ _ (l₅ _ (l₄ _ (l₃ _ (l₂ _ (l₁ [] (sym lowest-nil)) ∙ lowest-twice 11 (eqb α 0) (eqb β 0) [])) ∙ lowest-twice 3 (refused-3 (index-places h) index) (refused-3 (mark-places h) marks) _))
 
 -- ---- peel
 

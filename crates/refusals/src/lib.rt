@@ -1,6 +1,6 @@
 // Document 01's numbers: for each call the lowest that applies, 0 if none does.
 ghost use mathlib.Core.Path.{_≡_};
-ghost use mathlib.Core.Bool.{false, _||_};
+ghost use mathlib.Core.Bool.{Bool, false, _||_};
 ghost use mathlib.Core.List.{List, [], _∷_, _++_};
 ghost use Prim.Native.Nat.{ℕ, _≤_, _<_};
 ghost use lib.ListN.{length};
@@ -74,31 +74,29 @@ pub fn build_number(
     0
 }
 
-// 1 to 3 and 11.
+// A number where it applies, else the one that comes after it.
+fn lowest(applies: bool, number: u16, after: u16) -> u16
+    ensures { λ r. ⌜ ((cs : List (ℕ × Bool)) → after ≡ lowest-number cs → r ≡ lowest-number ((number, applies) ∷ cs)) ⌝ }
+{
+    if applies {
+        return number;
+    }
+    after
+}
+
+// 1 to 3 and 11. All are tested, without a branch: a query is short, and its loop starts behind one test.
 pub fn query_number(head: Head, index: &[u16], alpha: u16, beta: u16, marks: &[u16]) -> u16
     ensures { λ r. ⌜ r ≡ query-refusal head (now (index .entry)) alpha beta (now (marks .entry)) ⌝ }
 {
-    if 200 < head.operators {
-        return 1;
-    }
-    if 60 < head.rides {
-        return 2;
-    }
     let n = head.operators as usize;
     let m = head.rides as usize;
-    if index.len() < m * (n + m) {
-        return 3;
-    }
-    if marks.len() < n + m {
-        return 3;
-    }
-    if alpha == 0 {
-        return 11;
-    }
-    if beta == 0 {
-        return 11;
-    }
-    0
+    let zero = lowest(alpha == 0, 11, lowest(beta == 0, 11, 0));
+    let short = lowest(
+        index.len() < m * (n + m),
+        3,
+        lowest(marks.len() < n + m, 3, zero),
+    );
+    lowest(200 < head.operators, 1, lowest(60 < head.rides, 2, short))
 }
 
 // Whether a pair array is shorter than operators × rides, or the marks than operators + rides.

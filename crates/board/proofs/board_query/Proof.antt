@@ -10,7 +10,7 @@ use Rattle.board.proofs.board_query.Statement.{statement}
 use Rattle.board.proofs.board_query.Tie as tie
 use Rattle.board.proofs.board_query.Reads as reads
 use Rattle.board.proofs.board_query.Lts as lts
-use Rattle.board.proofs.mark_nobody.Reads as mark-nobody-reads
+use Rattle.levels.proofs.clear.Reads as clear-reads
 use Rattle.board.proofs.query_row.Reads as query-row-reads
 use Rattle.refusals.proofs.query_number.Reads as query-number-reads
 
@@ -39,23 +39,23 @@ add-w : tie.Need-add-w
 add-w c = search needs
 
 -- src/lib.rt:85:21
-sub-mark-nobody : tie.Need-sub-mark-nobody
-sub-mark-nobody c = search needs
+sub-clear : tie.Need-sub-clear
+sub-clear c = search needs
 
 -- src/lib.rt:85:21
-part-mark-nobody-start : tie.Need-part-mark-nobody-start
-part-mark-nobody-start c = search needs
+part-clear-start : tie.Need-part-clear-start
+part-clear-start c = search needs
 
 -- src/lib.rt:85:21
-part-mark-nobody-end : tie.Need-part-mark-nobody-end
-part-mark-nobody-end c = let a = c .before .before .before .before .before .before .before .before .before .args in
+part-clear-end : tie.Need-part-clear-end
+part-clear-end c = let a = c .before .before .before .before .before .before .before .before .before .args in
     let q = c .before .before .before .before .before .query-number in
     let none = sym (q .ensures) ∙ (let z : q .result ≡ 0 = omega arith in z) in
     query-long (a .head) (a .index .now) (a .marks .now) (a .alpha) (a .beta) none .3
 
 -- src/lib.rt:85:9
-mark-nobody-requires : tie.Need-mark-nobody-requires
-mark-nobody-requires c κs = search needs
+clear-requires : tie.Need-clear-requires
+clear-requires c κs = search needs
 
 -- src/lib.rt:86:9
 same-length-2 : tie.Need-same-length-2
@@ -66,7 +66,7 @@ returns-2 : tie.Need-returns-2
 returns-2 c = let a = c .before .before .before .before .before .before .before .before .before .before .before .before .before .args in
     let q = c .before .before .before .before .before .before .before .before .before .query-number in
     let none = sym (q .ensures) ∙ (let z : q .result ≡ 0 = omega arith in z) in
-    let v = c .before .before .mark-nobody in
+    let v = c .before .before .clear in
     query-nobody (a .head) (a .index .now) (a .marks .now) (a .alpha) (a .beta) none (omega arith) (v .last .0) (omega arith) (v .ensures)
 
 -- src/lib.rt:92:15
@@ -121,7 +121,7 @@ query-row-requires c κs = let a = c .before .before .before .before .before .be
     let none = sym (q .ensures) ∙ (let z : q .result ≡ 0 = omega arith in z) in
     let e = row-long (a .head) (a .index .now) (a .marks .now) (a .alpha) (a .beta) none (omega arith) in
     let k = query-long (a .head) (a .index .now) (a .marks .now) (a .alpha) (a .beta) none in
-    (omega (arith, e), omega (arith, e, k .3), omega (arith, e, k .0, k .1))
+    (omega (arith, e), omega (arith, e, k .3), omega (arith, e, k .0, k .1), k .5)
 
 -- src/lib.rt:64:1
 same-length-3 : tie.Need-same-length-3
@@ -144,10 +144,10 @@ board-query-spec =
     cast-n
     cast-w
     add-w
-    sub-mark-nobody
-    part-mark-nobody-start
-    part-mark-nobody-end
-    mark-nobody-requires
+    sub-clear
+    part-clear-start
+    part-clear-end
+    clear-requires
     same-length-2
     returns-2
     sub-at

@@ -1,12 +1,14 @@
+-- `board::mark_levels` meets its contract. The loop's invariant: the marks below i are those of their levels, and the count is how many of them are 1. Assumes nothing.
 use borrow.Author.Needs.{needs}
-use Prim.Native.Nat.{ℕ, _+_, _≤_, _<_, _-_}
+use Prim.Native.Nat.{ℕ, suc, _+_, _≤_, _<_, _-_}
 use mathlib.Core.Path.{_≡_, refl, sym, ap, _∙_, subst}
 use native.Mathlib.Omega.{arith}
 use lib.ListN.{length, getD, length-set}
-use lib.Dec.{leb}
+use lib.Dec.{ltb}
 use Rattle.model.specs.Count.{bit, count}
 use Rattle.model.proofs.Count.{bit-le, count-le, count-more, count-none}
 use Rattle.model.proofs.Store.{stored}
+use Rattle.board.specs.Words.{Marked}
 use Rattle.board.proofs.mark_levels.Statement.{statement}
 use Rattle.board.proofs.mark_levels.Tie as tie
 use Rattle.board.proofs.mark_levels.Reads as reads
@@ -14,78 +16,71 @@ use Rattle.board.proofs.mark_levels.Lts as lts
 use Rattle.board.proofs.mark.Reads as mark-reads
 
 abbrev Inv-loop : tie.InvT-loop
-Inv-loop levels beta marks₀ n count₀ i₀ marks count i =
+Inv-loop levels beta marks₀ n below count₀ i₀ marks count i =
     (i ≤ n) ×
     (n ≡ length marks₀) ×
     (length marks ≡ length marks₀) ×
-    (count ≡ Rattle.model.specs.Count.count i (λ k. leb beta (getD levels k 0))) ×
-    ((k : ℕ) → k < i → getD marks k 0 ≡ bit (leb beta (getD levels k 0)))
+    (count ≡ Rattle.model.specs.Count.count i (λ k. ltb below (getD levels k 0))) ×
+    ((k : ℕ) → k < i → getD marks k 0 ≡ bit (ltb below (getD levels k 0)))
 
 abbrev μ-loop : tie.MeasureT-loop
-μ-loop levels beta marks₀ n count₀ i₀ marks count i =
+μ-loop levels beta marks₀ n below count₀ i₀ marks count i =
     n - i
 
--- src/lib.rt:27:5
-loop-holds : tie.Need-loop-holds Inv-loop μ-loop
-loop-holds c = let a = c .before .before .args in (omega arith, refl, refl, sym (count-none (λ (k : ℕ). leb (a .beta) (getD (a .levels .now) k 0))), (λ k l. absurd (let z : ⊥ = omega arith in z)))
+sub-below : tie.Need-sub-below Inv-loop μ-loop
+sub-below c = search needs
 
--- src/lib.rt:28:22
+loop-holds : tie.Need-loop-holds Inv-loop μ-loop
+loop-holds c = let a = c .before .before .args in (omega arith, refl, refl, sym (count-none (λ (k : ℕ). ltb (a .beta - 1) (getD (a .levels .now) k 0))), (λ k l. absurd (let z : ⊥ = omega arith in z)))
+
 mul-mark : tie.Need-mul-mark Inv-loop μ-loop
 mul-mark c = search needs
 
--- src/lib.rt:28:22
 shared-slice-read-mark : tie.Need-shared-slice-read-mark Inv-loop μ-loop
 shared-slice-read-mark c = search needs
 
--- src/lib.rt:28:13
 mark-requires : tie.Need-mark-requires Inv-loop μ-loop
 mark-requires c κs = search needs
 
--- src/lib.rt:29:9
 mul-marks : tie.Need-mul-marks Inv-loop μ-loop
 mul-marks c = search needs
 
--- src/lib.rt:29:9
 slice-write-marks : tie.Need-slice-write-marks Inv-loop μ-loop
 slice-write-marks c = search needs
 
--- src/lib.rt:30:9
 add-count : tie.Need-add-count Inv-loop μ-loop
 add-count c = let s = c .before .before .before .before .before .before in
     let a = s .args in
     let l = c .before .before .before .loop in
-    omega (arith, l .inv .3, count-le (λ (k : ℕ). leb (a .beta) (getD (a .levels .now) k 0)) (l .i), c .mark .ensures, bit-le (leb (a .beta) (getD (a .levels .now) (l .i) 0)), s .pre .0, s .pre .1)
+    omega (arith, l .inv .3, count-le (λ (k : ℕ). ltb (a .beta - 1) (getD (a .levels .now) k 0)) (l .i), c .mark .ensures, bit-le (ltb (a .beta - 1) (getD (a .levels .now) (l .i) 0)), s .pre .1, s .pre .2)
 
--- src/lib.rt:31:9
 add-i : tie.Need-add-i Inv-loop μ-loop
 add-i c = search needs
 
--- src/lib.rt:27:5
 loop-less : tie.Need-loop-less Inv-loop μ-loop
 loop-less c = search needs
 
--- src/lib.rt:27:5
 loop-again : tie.Need-loop-again Inv-loop μ-loop
 loop-again c = let a = c .before .before .before .before .before .before .args in
     let l = c .before .before .before .loop in (
       omega arith,
       refl,
       simp length-set (omega arith),
-      omega (arith, l .inv .3, c .mark .ensures, count-more (λ (k : ℕ). leb (a .beta) (getD (a .levels .now) k 0)) (l .i)),
-      stored (λ (k : ℕ). bit (leb (a .beta) (getD (a .levels .now) k 0))) (l .marks) (l .marks) (l .i) _ (omega arith) (c .mark .ensures) (l .inv .4),
+      omega (arith, l .inv .3, c .mark .ensures, count-more (λ (k : ℕ). ltb (a .beta - 1) (getD (a .levels .now) k 0)) (l .i)),
+      stored (λ (k : ℕ). bit (ltb (a .beta - 1) (getD (a .levels .now) k 0))) (l .marks) (l .marks) (l .i) _ (omega arith) (c .mark .ensures) (l .inv .4),
     )
 
--- src/lib.rt:20:1
 same-length : tie.Need-same-length Inv-loop μ-loop
 same-length c = search needs
 
--- src/lib.rt:20:1
 returns : tie.Need-returns Inv-loop μ-loop
 returns c = let s = c .before .before .before .before in
     let a = s .args in
     let l = c .before .loop in
-    let e : l .i ≡ length (a .levels .now) = omega (arith, s .pre .0) in
-    record { marks-are = λ k h. l .inv .4 k (omega arith); counted = l .inv .3 ∙ ap (λ (z : ℕ). count z (λ (k : ℕ). leb (a .beta) (getD (a .levels .now) k 0))) e }
+    let e : l .i ≡ length (a .levels .now) = omega (arith, s .pre .1) in
+    let b : suc (a .beta - 1) ≡ a .beta = omega (arith, s .pre .0) in
+    subst (λ (z : ℕ). Marked (a .levels .now) z (l .count) (l .marks)) b
+    (record { marks-are = λ k h. l .inv .4 k (omega arith); counted = l .inv .3 ∙ ap (λ (z : ℕ). count z (λ (k : ℕ). ltb (a .beta - 1) (getD (a .levels .now) k 0))) e })
 
 pub mark-levels-spec : {M : Type 1} → statement M
 mark-levels-spec =
@@ -93,6 +88,7 @@ mark-levels-spec =
     (tie.spec
     Inv-loop
     μ-loop
+    sub-below
     loop-holds
     mul-mark
     shared-slice-read-mark

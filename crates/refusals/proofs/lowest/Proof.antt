@@ -1,0 +1,18 @@
+use mathlib.Core.Path.{sym, _∙_, subst}
+use lib.Dec.{T}
+use Rattle.model.proofs.Refusal.{lowest-here, lowest-skip}
+use Rattle.refusals.proofs.lowest.Statement.{statement}
+use Rattle.refusals.proofs.lowest.Tie as tie
+use Rattle.refusals.proofs.lowest.Reads as reads
+use Rattle.refusals.proofs.lowest.Lts as lts
+
+-- src/lib.rt:82:9
+returns : tie.Need-returns
+returns c = λ cs e. sym (lowest-here _ _ cs (subst T (sym (c .if1 .taken)) tt))
+
+-- src/lib.rt:78:1
+returns-2 : tie.Need-returns-2
+returns-2 c = λ cs e. e ∙ sym (lowest-skip _ _ cs (λ t. subst T (c .if1 .left) t))
+
+pub lowest-spec : {M : Type 1} → statement M
+lowest-spec = tie.close (tie.spec returns returns-2)
