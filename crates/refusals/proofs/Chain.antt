@@ -20,10 +20,6 @@ use Rattle.model.proofs.Refusal.{lowest-nil, lowest-here, lowest-skip, lowest-n
 pub product-fits : (a b : ℕ) → a < 65536 → b < 65536 → a * b < 4294967296
 product-fits a b h l = omega (arith, mul-le-mul-right b (let k : a ≤ 65535 = omega arith in k))
 
--- of 200 and 60
-pub product-small : (a b : ℕ) → a ≤ 200 → b ≤ 60 → a * b ≤ 12000
-product-small a b h l = omega (arith, mul-le-mul-right b h)
-
 -- ---- 3
 
 module _ (b : Board) where

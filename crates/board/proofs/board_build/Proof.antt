@@ -1,9 +1,10 @@
+-- `board_build` meets its contract: it refuses, or stamps the pairs, fills the index and zeroes the tails. Assumes nothing.
 use borrow.Author.Needs.{needs}
 use Prim.Native.Nat.{ℕ, _+_, _*_, _≤_, _<_, _-_}
 use mathlib.Core.Path.{_≡_, refl, sym, ap, _∙_, subst}
 use native.Mathlib.Omega.{arith}
 use Rattle.model.specs.Layout.{lent}
-use Rattle.refusals.proofs.Chain.{product-small}
+use Rattle.pairs.proofs.Place.{product-small}
 use Rattle.board.proofs.Builds.{build-refused, build-table, build-fits, build-pairs, build-range, build-done}
 use Rattle.board.proofs.board_build.Statement.{statement}
 use Rattle.board.proofs.board_build.Tie as tie
@@ -15,40 +16,31 @@ use Rattle.levels.proofs.fill_index.Reads as fill-index-reads
 use Rattle.pairs.proofs.clear_tail.Reads as clear-tail-reads
 use Rattle.refusals.proofs.build_number.Reads as build-number-reads
 
--- src/lib.rt:64:9
 build-number-requires : tie.Need-build-number-requires
 build-number-requires c κs = search needs
 
--- src/lib.rt:66:9
 same-length : tie.Need-same-length
 same-length c = search needs
 
--- src/lib.rt:66:9
 same-length-2 : tie.Need-same-length-2
 same-length-2 c = search needs
 
--- src/lib.rt:66:9
 same-length-3 : tie.Need-same-length-3
 same-length-3 c = search needs
 
--- src/lib.rt:66:9
 same-length-4 : tie.Need-same-length-4
 same-length-4 c = search needs
 
--- src/lib.rt:66:9
 returns : tie.Need-returns
 returns c = let a = c .before .before .before .before .before .before .before .before .before .before .args in
     build-refused (lent (a .head) (a .operators .now) (a .rides .now) (a .stamps .now) (a .index .now)) (a .start) _ (c .before .build-number .ensures) (omega arith)
 
--- src/lib.rt:68:13
 cast-n : tie.Need-cast-n
 cast-n c = search needs
 
--- src/lib.rt:69:13
 cast-m : tie.Need-cast-m
 cast-m c = search needs
 
--- src/lib.rt:70:18
 mul-places : tie.Need-mul-places
 mul-places c = let a = c .before .before .before .before .before .before .before .before .before .before .before .before .args in
     let b = lent (a .head) (a .operators .now) (a .rides .now) (a .stamps .now) (a .index .now) in
@@ -57,11 +49,9 @@ mul-places c = let a = c .before .before .before .before .before .before .before
     let t = build-table b (a .start) none in
     omega (arith, product-small (a .head .operators) (a .head .rides) (t .few-operators) (t .few-rides))
 
--- src/lib.rt:71:17
 cast-pairs : tie.Need-cast-pairs
 cast-pairs c = search needs
 
--- src/lib.rt:72:5
 forget-requires : tie.Need-forget-requires
 forget-requires c κs = let a = c .before .before .before .before .before .before .before .before .before .before .before .before .before .before .args in
     let b = lent (a .head) (a .operators .now) (a .rides .now) (a .stamps .now) (a .index .now) in
@@ -70,7 +60,6 @@ forget-requires c κs = let a = c .before .before .before .before .before .befor
     let t = build-table b (a .start) none in
     t .stamps
 
--- src/lib.rt:73:5
 stamp-pairs-requires : tie.Need-stamp-pairs-requires
 stamp-pairs-requires c κs = let a = c .before .before .before .before .before .before .before .before .before .before .before .before .before .before .before .before .before .before .before .before .args in
     let b = lent (a .head) (a .operators .now) (a .rides .now) (a .stamps .now) (a .index .now) in
@@ -80,7 +69,6 @@ stamp-pairs-requires c κs = let a = c .before .before .before .before .before .
     let p = build-pairs b (a .start) none in
     ((p .operators-long, p .rides-long, omega (arith, t .stamps), build-range b (a .start) none), c .before .before .before .before .before .forget .ensures .0)
 
--- src/lib.rt:74:5
 fill-index-requires : tie.Need-fill-index-requires
 fill-index-requires c κs = let a = c .before .before .before .before .before .before .before .before .before .before .before .before .before .before .before .before .before .before .before .before .before .before .before .before .before .before .args in
     let b = lent (a .head) (a .operators .now) (a .rides .now) (a .stamps .now) (a .index .now) in
@@ -89,7 +77,6 @@ fill-index-requires c κs = let a = c .before .before .before .before .before .b
     let t = build-table b (a .start) none in
     (build-pairs b (a .start) none, t .index)
 
--- src/lib.rt:75:5
 clear-tail-requires : tie.Need-clear-tail-requires
 clear-tail-requires c κs = let a = c .before .before .before .before .before .before .before .before .before .before .before .before .before .before .before .before .before .before .before .before .before .before .before .before .before .before .before .before .before .before .args in
     let b = lent (a .head) (a .operators .now) (a .rides .now) (a .stamps .now) (a .index .now) in
@@ -98,7 +85,6 @@ clear-tail-requires c κs = let a = c .before .before .before .before .before .b
     let t = build-table b (a .start) none in
     (build-fits b (a .start) none, t .operators)
 
--- src/lib.rt:76:5
 clear-tail-requires-2 : tie.Need-clear-tail-requires-2
 clear-tail-requires-2 c κs = let a = c .before .before .before .before .before .before .before .before .before .before .before .before .before .before .before .before .before .before .before .before .before .before .before .before .before .before .before .before .before .before .before .before .before .before .args in
     let b = lent (a .head) (a .operators .now) (a .rides .now) (a .stamps .now) (a .index .now) in
@@ -107,23 +93,18 @@ clear-tail-requires-2 c κs = let a = c .before .before .before .before .before 
     let t = build-table b (a .start) none in
     (build-fits b (a .start) none, t .rides)
 
--- src/lib.rt:53:1
 same-length-5 : tie.Need-same-length-5
 same-length-5 c = search needs
 
--- src/lib.rt:53:1
 same-length-6 : tie.Need-same-length-6
 same-length-6 c = search needs
 
--- src/lib.rt:53:1
 same-length-7 : tie.Need-same-length-7
 same-length-7 c = search needs
 
--- src/lib.rt:53:1
 same-length-8 : tie.Need-same-length-8
 same-length-8 c = search needs
 
--- src/lib.rt:53:1
 returns-2 : tie.Need-returns-2
 returns-2 c = let a = c .before .before .before .before .before .before .before .before .before .before .before .before .before .before .before .before .before .before .before .before .before .before .before .before .before .before .before .before .before .before .before .before .before .before .before .before .before .args in
     let b = lent (a .head) (a .operators .now) (a .rides .now) (a .stamps .now) (a .index .now) in

@@ -1,3 +1,4 @@
+-- `board_peel` meets its contract: it refuses, or peels over new tables. Assumes nothing.
 use borrow.Author.Needs.{needs}
 use mathlib.Core.Path.{_≡_, refl, sym, _∙_}
 use native.Mathlib.Omega.{arith}
@@ -10,27 +11,21 @@ use Rattle.board.proofs.board_peel.Lts as lts
 use Rattle.board.proofs.peel_over.Reads as peel-over-reads
 use Rattle.refusals.proofs.peel_number.Reads as peel-number-reads
 
--- src/lib.rt:138:9
 peel-number-requires : tie.Need-peel-number-requires
 peel-number-requires c κs = search needs
 
--- src/lib.rt:140:9
 same-length : tie.Need-same-length
 same-length c = search needs
 
--- src/lib.rt:140:9
 returns : tie.Need-returns
 returns c = let a = c .before .before .before .before .before .before .args in peel-refused (a .head) (a .operators .now) (a .rides .now) (a .marks .now) (a .alpha) (a .beta) (a .steps) _ (c .before .peel-number .ensures) (omega arith)
 
--- src/lib.rt:152:9
 slice-aggregate-peel-over : tie.Need-slice-aggregate-peel-over
 slice-aggregate-peel-over c = search needs
 
--- src/lib.rt:153:9
 slice-aggregate-peel-over-2 : tie.Need-slice-aggregate-peel-over-2
 slice-aggregate-peel-over-2 c = search needs
 
--- src/lib.rt:148:5
 peel-over-requires : tie.Need-peel-over-requires
 peel-over-requires c κs = let a = c .before .before .before .before .before .before .before .before .before .args in
     let q = c .before .before .before .before .peel-number in
@@ -38,11 +33,9 @@ peel-over-requires c κs = let a = c .before .before .before .before .before .be
     let k = peel-accepted (a .head) (a .operators .now) (a .rides .now) (a .marks .now) (a .alpha) (a .beta) none in
     ((k .0, refl, refl, k .1), (getD-zeros 12000, (getD-zeros 12000, k .2)))
 
--- src/lib.rt:126:1
 same-length-2 : tie.Need-same-length-2
 same-length-2 c = search needs
 
--- src/lib.rt:126:1
 returns-2 : tie.Need-returns-2
 returns-2 c = let a = c .before .before .before .before .before .before .before .before .before .before .before .before .before .before .args in
     let q = c .before .before .before .before .before .before .before .before .before .peel-number in

@@ -1,3 +1,4 @@
+-- `board::forget` meets its contract. The loop's invariant: the first k stamps are zero, those past the places are as they came. Assumes nothing.
 use borrow.Author.Needs.{needs}
 use Prim.Native.Nat.{ℕ, _+_, _*_, _≤_, _<_, _-_}
 use mathlib.Core.Path.{_≡_, refl, sym, ap, _∙_, subst}
@@ -18,35 +19,27 @@ abbrev μ-loop : tie.MeasureT-loop
 μ-loop stamps₀ places k₀ stamps k =
     places - k
 
--- src/lib.rt:23:5
 loop-holds : tie.Need-loop-holds Inv-loop μ-loop
 loop-holds c = (omega arith, refl, (λ i l. absurd (let z : ⊥ = omega arith in z)), refl)
 
--- src/lib.rt:24:9
 mul-stamps : tie.Need-mul-stamps Inv-loop μ-loop
 mul-stamps c = search needs
 
--- src/lib.rt:24:9
 slice-write-stamps : tie.Need-slice-write-stamps Inv-loop μ-loop
 slice-write-stamps c = search needs
 
--- src/lib.rt:25:9
 add-k : tie.Need-add-k Inv-loop μ-loop
 add-k c = search needs
 
--- src/lib.rt:23:5
 loop-less : tie.Need-loop-less Inv-loop μ-loop
 loop-less c = search needs
 
--- src/lib.rt:23:5
 loop-again : tie.Need-loop-again Inv-loop μ-loop
 loop-again c = let l = c .before .loop in (omega arith, simp length-set (omega arith), stored (λ (i : ℕ). 0) (l .stamps) (l .stamps) (l .k) 0 (omega arith) refl (l .inv .2), drop-set-lt (c .before .before .args .places) (l .stamps) (l .k) 0 (omega arith) ∙ l .inv .3)
 
--- src/lib.rt:18:1
 same-length : tie.Need-same-length Inv-loop μ-loop
 same-length c = search needs
 
--- src/lib.rt:18:1
 returns : tie.Need-returns Inv-loop μ-loop
 returns c = let l = c .before .loop in (λ i h. l .inv .2 i (omega arith), l .inv .3)
 

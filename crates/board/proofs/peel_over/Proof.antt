@@ -1,3 +1,4 @@
+-- `board::peel_over` meets its contract: the tables hold the clearances, and `peeling::peel` does the rest. Assumes nothing.
 use borrow.Author.Needs.{needs}
 use mathlib.Core.Path.{_≡_, refl}
 use native.Mathlib.Omega.{arith}
@@ -11,23 +12,19 @@ use Rattle.board.proofs.peel_over.Lts as lts
 use Rattle.peeling.proofs.peel.Reads as peel-reads
 use Rattle.tables.proofs.fill.Reads as fill-reads
 
--- src/lib.rt:119:17
 cast-pairs : tie.Need-cast-pairs
 cast-pairs c = search needs
 
--- src/lib.rt:120:5
 fill-requires : tie.Need-fill-requires
 fill-requires c κs = let s = c .before .before .before .before .before .before .before in
     let p = s .pre .0 in
     ((p .0 .operators-long, p .0 .rides-long, omega (arith, p .1), range-operators _ _ _ (p .0)), s .pre .1 .0)
 
--- src/lib.rt:121:5
 fill-requires-2 : tie.Need-fill-requires-2
 fill-requires-2 c κs = let s = c .before .before .before .before .before .before .before .before .before .before .before in
     let p = s .pre .0 in
     ((p .0 .rides-long, p .0 .operators-long, omega (arith, p .2), range-rides _ _ _ (p .0)), s .pre .1 .1 .0)
 
--- src/lib.rt:122:5
 peel-requires : tie.Need-peel-requires
 peel-requires c κs = let s = c .before .before .before .before .before .before .before .before .before .before .before .before .before .before .before .before .before in
     let a = s .args in
@@ -37,19 +34,15 @@ peel-requires c κs = let s = c .before .before .before .before .before .before 
     let ready = peel-ready (a .head) (a .operators .now) (a .rides .now) (p .0) (f₁ .last .1 .1 .1 .1 .1 .0) (f₂ .last .1 .1 .1 .1 .1 .0) (omega (arith, p .1)) (omega (arith, p .2)) (f₁ .ensures) (f₂ .ensures) (a .marks .now) (p .3) (s .pre .1 .1 .1) in
     (graph (a .head) (a .operators .now) (a .rides .now), ready)
 
--- src/lib.rt:102:1
 same-length : tie.Need-same-length
 same-length c = search needs
 
--- src/lib.rt:102:1
 same-length-2 : tie.Need-same-length-2
 same-length-2 c = search needs
 
--- src/lib.rt:102:1
 same-length-3 : tie.Need-same-length-3
 same-length-3 c = search needs
 
--- src/lib.rt:102:1
 returns : tie.Need-returns
 returns c = let s = c .before .before .before .before .before .before .before .before .before .before .before .before .before .before .before .before .before .before .before .before in
     let a = s .args in

@@ -1,3 +1,4 @@
+-- `board::stamp_pairs` meets its contract. The loop's invariant: the stamps are those of the first k pairs. Assumes nothing.
 use borrow.Author.Needs.{needs}
 use Prim.Native.Nat.{ℕ, _+_, _*_, _≤_, _<_, _-_}
 use mathlib.Core.Path.{_≡_, refl, sym, ap, _∙_, subst}
@@ -24,7 +25,6 @@ abbrev μ-loop : tie.MeasureT-loop
 μ-loop operators rides pairs n m start stamps₀ k₀ stamps k =
     pairs - k
 
--- src/lib.rt:44:5
 loop-holds : tie.Need-loop-holds Inv-loop μ-loop
 loop-holds c = (
   omega arith,
@@ -33,31 +33,24 @@ loop-holds c = (
   refl,
 )
 
--- src/lib.rt:45:17
 mul-u : tie.Need-mul-u Inv-loop μ-loop
 mul-u c = search needs
 
--- src/lib.rt:45:17
 shared-slice-read-u : tie.Need-shared-slice-read-u Inv-loop μ-loop
 shared-slice-read-u c = search needs
 
--- src/lib.rt:45:17
 cast-u : tie.Need-cast-u Inv-loop μ-loop
 cast-u c = omega (arith, c .shared-slice-known .given (c .before .before .loop .k))
 
--- src/lib.rt:46:17
 mul-v : tie.Need-mul-v Inv-loop μ-loop
 mul-v c = search needs
 
--- src/lib.rt:46:17
 shared-slice-read-v : tie.Need-shared-slice-read-v Inv-loop μ-loop
 shared-slice-read-v c = search needs
 
--- src/lib.rt:46:17
 cast-v : tie.Need-cast-v Inv-loop μ-loop
 cast-v c = omega (arith, c .shared-slice-known2 .given (c .before .before .before .loop .k))
 
--- src/lib.rt:47:16
 mul-stamps : tie.Need-mul-stamps Inv-loop μ-loop
 mul-stamps c = let s = c .before .before .before .before in
     let a = s .args in
@@ -65,7 +58,6 @@ mul-stamps c = let s = c .before .before .before .before in
     let r = s .pre .0 .3 (l .k) (omega arith) in
     omega (arith, place-lt (a .n) (a .m) (getD (a .operators .now) (l .k) 0) (getD (a .rides .now) (l .k) 0) (r .0) (r .1) (length (l .stamps)) (omega arith))
 
--- src/lib.rt:47:16
 add-stamps : tie.Need-add-stamps Inv-loop μ-loop
 add-stamps c = let s = c .before .before .before .before in
     let a = s .args in
@@ -73,7 +65,6 @@ add-stamps c = let s = c .before .before .before .before in
     let r = s .pre .0 .3 (l .k) (omega arith) in
     omega (arith, place-lt (a .n) (a .m) (getD (a .operators .now) (l .k) 0) (getD (a .rides .now) (l .k) 0) (r .0) (r .1) (length (l .stamps)) (omega arith))
 
--- src/lib.rt:47:9
 mul-stamps-2 : tie.Need-mul-stamps-2 Inv-loop μ-loop
 mul-stamps-2 c = let s = c .before .before .before .before in
     let a = s .args in
@@ -81,7 +72,6 @@ mul-stamps-2 c = let s = c .before .before .before .before in
     let r = s .pre .0 .3 (l .k) (omega arith) in
     omega (arith, place-lt (a .n) (a .m) (getD (a .operators .now) (l .k) 0) (getD (a .rides .now) (l .k) 0) (r .0) (r .1) (length (l .stamps)) (omega arith))
 
--- src/lib.rt:47:9
 slice-write-stamps : tie.Need-slice-write-stamps Inv-loop μ-loop
 slice-write-stamps c = let s = c .before .before .before .before in
     let a = s .args in
@@ -89,15 +79,12 @@ slice-write-stamps c = let s = c .before .before .before .before in
     let r = s .pre .0 .3 (l .k) (omega arith) in
     place-lt (a .n) (a .m) (getD (a .operators .now) (l .k) 0) (getD (a .rides .now) (l .k) 0) (r .0) (r .1) (length (l .stamps)) (omega arith)
 
--- src/lib.rt:48:9
 add-k : tie.Need-add-k Inv-loop μ-loop
 add-k c = search needs
 
--- src/lib.rt:44:5
 loop-less : tie.Need-loop-less Inv-loop μ-loop
 loop-less c = search needs
 
--- src/lib.rt:44:5
 loop-again : tie.Need-loop-again Inv-loop μ-loop
 loop-again c = let s = c .before .before .before .before in
     let a = s .args in
@@ -109,11 +96,9 @@ loop-again c = let s = c .before .before .before .before in
       drop-set-lt (a .n * a .m) (l .stamps) _ (a .start) (place-lt (a .n) (a .m) (getD (a .operators .now) (l .k) 0) (getD (a .rides .now) (l .k) 0) (r .0) (r .1) (a .n * a .m) (omega arith)) ∙ l .inv .3,
     )
 
--- src/lib.rt:30:1
 same-length : tie.Need-same-length Inv-loop μ-loop
 same-length c = search needs
 
--- src/lib.rt:30:1
 returns : tie.Need-returns Inv-loop μ-loop
 returns c = let a = c .before .before .args in
     let l = c .before .loop in

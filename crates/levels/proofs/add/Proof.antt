@@ -1,3 +1,4 @@
+-- `levels::add` meets its contract. The loop's invariant: the first j sums are written, the other degrees are as they came. Assumes nothing.
 use borrow.Author.Needs.{needs}
 use Prim.Native.Nat.{ℕ, _+_, _≤_, _<_, _-_}
 use mathlib.Core.Path.{_≡_, refl, sym, ap, _∙_, subst}
@@ -21,37 +22,29 @@ abbrev μ-loop : tie.MeasureT-loop
 μ-loop degrees₀ row n j₀ degrees j =
     n - j
 
--- src/lib.rt:227:5
 loop-holds : tie.Need-loop-holds Inv-loop μ-loop
 loop-holds c = (omega arith, refl, refl, (λ k l. absurd (let z : ⊥ = omega arith in z)), (λ k l. refl))
 
--- src/lib.rt:228:22
 slice-read-degrees : tie.Need-slice-read-degrees Inv-loop μ-loop
 slice-read-degrees c = search needs
 
--- src/lib.rt:228:35
 shared-slice-read-degrees : tie.Need-shared-slice-read-degrees Inv-loop μ-loop
 shared-slice-read-degrees c = search needs
 
--- src/lib.rt:228:22
 add-degrees : tie.Need-add-degrees Inv-loop μ-loop
 add-degrees c = let l = c .before .before .before .loop in
     let s = c .before .before .before .before in
     omega (arith, s .pre .1 (l .j) (omega arith), l .inv .4 (l .j) (omega arith))
 
--- src/lib.rt:228:9
 slice-write-degrees : tie.Need-slice-write-degrees Inv-loop μ-loop
 slice-write-degrees c = search needs
 
--- src/lib.rt:229:9
 add-j : tie.Need-add-j Inv-loop μ-loop
 add-j c = search needs
 
--- src/lib.rt:227:5
 loop-less : tie.Need-loop-less Inv-loop μ-loop
 loop-less c = search needs
 
--- src/lib.rt:227:5
 loop-again : tie.Need-loop-again Inv-loop μ-loop
 loop-again c = let l = c .before .before .before .loop in
     let a = c .before .before .before .before .args in
@@ -65,11 +58,9 @@ loop-again c = let l = c .before .before .before .loop in
       left-alone f (a .degrees .now) (l .degrees) (l .j) _ fits value (l .inv .4),
     )
 
--- src/lib.rt:220:1
 same-length : tie.Need-same-length Inv-loop μ-loop
 same-length c = search needs
 
--- src/lib.rt:220:1
 returns : tie.Need-returns Inv-loop μ-loop
 returns c = λ k h. c .before .loop .inv .3 k (omega arith)
 

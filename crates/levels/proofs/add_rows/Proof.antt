@@ -1,3 +1,4 @@
+-- `levels::add_rows` meets its contract. The loop's invariant: the degrees are those within the first i rows. Assumes nothing.
 use borrow.Author.Needs.{needs}
 use Prim.Native.Nat.{ℕ, _+_, _*_, _≤_, _<_, _-_}
 use mathlib.Core.Path.{_≡_, refl, sym, ap, _∙_, subst}
@@ -25,12 +26,10 @@ abbrev μ-loop : tie.MeasureT-loop
 μ-loop degrees₀ table width height n i₀ degrees i =
     height - i
 
--- src/lib.rt:243:5
 loop-holds : tie.Need-loop-holds Inv-loop μ-loop
 loop-holds c = let s = c .before .before in
     (omega arith, refl, refl, λ j h. s .pre .1 j h ∙ sym (count-none (λ (k : ℕ). joined (s .args .table .now) (s .args .width) k j)))
 
--- src/lib.rt:244:18
 mul-at : tie.Need-mul-at Inv-loop μ-loop
 mul-at c = let s = c .before .before .before .before in
     let a = s .args in
@@ -39,7 +38,6 @@ mul-at c = let s = c .before .before .before .before in
     let inside = row-inside (a .height) (a .width) (l .i) (length (a .degrees .now)) (omega arith) (t .wide) (length (a .table .now)) (t .size) in
     omega (arith, inside)
 
--- src/lib.rt:245:19
 add-end : tie.Need-add-end Inv-loop μ-loop
 add-end c = let s = c .before .before .before .before in
     let a = s .args in
@@ -48,15 +46,12 @@ add-end c = let s = c .before .before .before .before in
     let inside = row-inside (a .height) (a .width) (l .i) (length (a .degrees .now)) (omega arith) (t .wide) (length (a .table .now)) (t .size) in
     omega (arith, inside)
 
--- src/lib.rt:246:22
 sub-add : tie.Need-sub-add Inv-loop μ-loop
 sub-add c = search needs
 
--- src/lib.rt:246:22
 part-add-start : tie.Need-part-add-start Inv-loop μ-loop
 part-add-start c = search needs
 
--- src/lib.rt:246:22
 part-add-end : tie.Need-part-add-end Inv-loop μ-loop
 part-add-end c = let s = c .before .before .before .before .before in
     let a = s .args in
@@ -65,7 +60,6 @@ part-add-end c = let s = c .before .before .before .before .before in
     let inside = row-inside (a .height) (a .width) (l .i) (length (a .degrees .now)) (omega arith) (t .wide) (length (a .table .now)) (t .size) in
     inside
 
--- src/lib.rt:246:9
 add-requires : tie.Need-add-requires Inv-loop μ-loop
 add-requires c κs = let s = c .before .before .before .before .before .before in
     let a = s .args in
@@ -76,15 +70,12 @@ add-requires c κs = let s = c .before .before .before .before .before .before i
       λ j h. omega (arith, part-at (a .table .now) (l .i * a .width) (length (a .degrees .now)) inside j 0 (omega arith), t .bits (l .i) j (omega arith) (omega arith), bit-le (joined (a .table .now) (a .width) (l .i) j), l .inv .3 j (omega arith), count-le (λ (k : ℕ). joined (a .table .now) (a .width) k j) (l .i), s .pre .0 .1),
     )
 
--- src/lib.rt:247:9
 add-i : tie.Need-add-i Inv-loop μ-loop
 add-i c = search needs
 
--- src/lib.rt:243:5
 loop-less : tie.Need-loop-less Inv-loop μ-loop
 loop-less c = search needs
 
--- src/lib.rt:243:5
 loop-again : tie.Need-loop-again Inv-loop μ-loop
 loop-again c = let s = c .before .before .before .before .before .before .before .before .before in
     let a = s .args in
@@ -97,11 +88,9 @@ loop-again c = let s = c .before .before .before .before .before .before .before
       λ j h. omega (arith, c .before .before .add .ensures j (omega arith), part-at (a .table .now) (l .i * a .width) (length (a .degrees .now)) inside j 0 h, t .bits (l .i) j (omega arith) h, l .inv .3 j h, count-more (λ (k : ℕ). joined (a .table .now) (a .width) k j) (l .i)),
     )
 
--- src/lib.rt:236:1
 same-length : tie.Need-same-length Inv-loop μ-loop
 same-length c = search needs
 
--- src/lib.rt:236:1
 returns : tie.Need-returns Inv-loop μ-loop
 returns c = let s = c .before .before .before .before in
     let l = c .before .loop in

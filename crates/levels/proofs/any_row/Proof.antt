@@ -1,3 +1,4 @@
+-- `levels::any_row` meets its contract: above the largest degree of an operator every level is 0. Assumes nothing.
 use borrow.Author.Needs.{needs}
 use Prim.Native.Nat.{ℕ, _+_, _≤_, _<_, _-_}
 use mathlib.Core.Path.{_≡_, refl, sym, ap, _∙_}
@@ -11,30 +12,24 @@ use Rattle.levels.proofs.any_row.Lts as lts
 use Rattle.levels.proofs.clear.Reads as clear-reads
 use Rattle.levels.proofs.fill_row.Reads as fill-row-reads
 
--- src/lib.rt:370:9
 clear-requires : tie.Need-clear-requires
 clear-requires c κs = search needs
 
--- src/lib.rt:371:9
 same-length : tie.Need-same-length
 same-length c = search needs
 
--- src/lib.rt:371:9
 returns : tie.Need-returns
 returns c = let s = c .before .before .before .before .before .before .before .before in
     let a = s .args in
     let v = c .before .before .clear in
     zero-row (table-graph (a .n) (a .m) (a .by-operator .now)) (a .alpha) (a .high) (a .degrees .operators) (omega arith) (s .pre .0 .1 .operator-degrees) (s .pre .1) (v .last .0) (omega (arith, s .pre .0 .3)) (λ i h. v .ensures i (omega (arith, s .pre .0 .3)))
 
--- src/lib.rt:373:5
 fill-row-requires : tie.Need-fill-row-requires
 fill-row-requires c κs = search needs
 
--- src/lib.rt:355:1
 same-length-2 : tie.Need-same-length-2
 same-length-2 c = search needs
 
--- src/lib.rt:355:1
 returns-2 : tie.Need-returns-2
 returns-2 c = search needs
 

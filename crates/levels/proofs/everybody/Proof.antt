@@ -1,3 +1,4 @@
+-- `levels::everybody` meets its contract: the degrees of both sides, from the tables. Assumes nothing.
 use borrow.Author.Needs.{needs}
 use borrow.Rule.Slice.PartMut.{same-len-mid}
 use mathlib.Core.List.{List}
@@ -14,19 +15,15 @@ use Rattle.levels.proofs.everybody.Reads as reads
 use Rattle.levels.proofs.everybody.Lts as lts
 use Rattle.levels.proofs.add_rows.Reads as add-rows-reads
 
--- src/lib.rt:320:14
 sub-add-rows : tie.Need-sub-add-rows
 sub-add-rows c = search needs
 
--- src/lib.rt:320:14
 part-operators-start : tie.Need-part-operators-start
 part-operators-start c = search needs
 
--- src/lib.rt:320:14
 part-operators-end : tie.Need-part-operators-end
 part-operators-end c = search needs
 
--- src/lib.rt:320:5
 add-rows-requires : tie.Need-add-rows-requires
 add-rows-requires c κs = let s = c .before .before .before in
     let a = s .args in
@@ -37,19 +34,15 @@ add-rows-requires c κs = let s = c .before .before .before in
       λ j h. first-at zeros (a .n) few j 0 (omega (arith, first-length zeros (a .n) few)) ∙ getD-replicate 200 j 0 0 (omega (arith, first-length zeros (a .n) few)),
     )
 
--- src/lib.rt:321:14
 sub-add-rows-2 : tie.Need-sub-add-rows-2
 sub-add-rows-2 c = search needs
 
--- src/lib.rt:321:14
 part-rides-start : tie.Need-part-rides-start
 part-rides-start c = search needs
 
--- src/lib.rt:321:14
 part-rides-end : tie.Need-part-rides-end
 part-rides-end c = search needs
 
--- src/lib.rt:321:5
 add-rows-requires-2 : tie.Need-add-rows-requires-2
 add-rows-requires-2 c κs = let s = c .before .before .before .before .before .before in
     let a = s .args in
@@ -60,7 +53,6 @@ add-rows-requires-2 c κs = let s = c .before .before .before .before .before .b
       λ j h. first-at zeros (a .m) few j 0 (omega (arith, first-length zeros (a .m) few)) ∙ getD-replicate 60 j 0 0 (omega (arith, first-length zeros (a .m) few)),
     )
 
--- src/lib.rt:314:1
 returns : tie.Need-returns
 returns c = let s = c .before .before .before .before .before .before .before .before in
     let a = s .args in

@@ -1,3 +1,4 @@
+-- `levels::fill_index` meets its contract: tables of zeros are filled, and the index from them. Assumes nothing.
 use borrow.Author.Needs.{needs}
 use Prim.Native.Nat.{ℕ, _+_, _*_, _≤_, _<_, _-_}
 use mathlib.Core.Path.{_≡_, refl}
@@ -8,27 +9,21 @@ use Rattle.levels.proofs.fill_index.Reads as reads
 use Rattle.levels.proofs.fill_index.Lts as lts
 use Rattle.levels.proofs.fill_over.Reads as fill-over-reads
 
--- src/lib.rt:470:9
 slice-aggregate-fill-over : tie.Need-slice-aggregate-fill-over
 slice-aggregate-fill-over c = search needs
 
--- src/lib.rt:471:9
 slice-aggregate-fill-over-2 : tie.Need-slice-aggregate-fill-over-2
 slice-aggregate-fill-over-2 c = search needs
 
--- src/lib.rt:472:9
 slice-aggregate-fill-over-3 : tie.Need-slice-aggregate-fill-over-3
 slice-aggregate-fill-over-3 c = search needs
 
--- src/lib.rt:466:5
 fill-over-requires : tie.Need-fill-over-requires
 fill-over-requires c κs = let s = c .before .before .before .before .before .before .before in ((s .pre .0, refl, refl, refl, s .pre .1), (getD-zeros 12000, getD-zeros 12000))
 
--- src/lib.rt:459:1
 same-length : tie.Need-same-length
 same-length c = search needs
 
--- src/lib.rt:459:1
 returns : tie.Need-returns
 returns c = search needs
 

@@ -1,3 +1,4 @@
+-- `levels::fill_over` meets its contract: the tables hold the clearances, and every row is filled from them. Assumes nothing.
 use borrow.Author.Needs.{needs}
 use mathlib.Core.List.{List}
 use Prim.Native.Nat.{ℕ, _+_, _*_, _≤_, _<_, _-_}
@@ -16,35 +17,28 @@ use Rattle.levels.proofs.fill_rows.Reads as fill-rows-reads
 use Rattle.levels.proofs.largest_of.Reads as largest-of-reads
 use Rattle.tables.proofs.fill.Reads as fill-reads
 
--- src/lib.rt:438:13
 cast-n : tie.Need-cast-n
 cast-n c = search needs
 
--- src/lib.rt:439:13
 cast-m : tie.Need-cast-m
 cast-m c = search needs
 
--- src/lib.rt:440:13
 add-w : tie.Need-add-w
 add-w c = search needs
 
--- src/lib.rt:441:17
 cast-pairs : tie.Need-cast-pairs
 cast-pairs c = search needs
 
--- src/lib.rt:442:5
 fill-requires : tie.Need-fill-requires
 fill-requires c κs = let s = c .before .before .before .before .before .before .before .before .before .before in
     let p = s .pre .0 in
     ((p .0 .operators-long, p .0 .rides-long, omega (arith, p .1), range-operators _ _ _ (p .0)), s .pre .1 .0)
 
--- src/lib.rt:443:5
 fill-requires-2 : tie.Need-fill-requires-2
 fill-requires-2 c κs = let s = c .before .before .before .before .before .before .before .before .before .before .before .before .before .before in
     let p = s .pre .0 in
     ((p .0 .rides-long, p .0 .operators-long, omega (arith, p .2), range-rides _ _ _ (p .0)), s .pre .1 .1)
 
--- src/lib.rt:444:9
 everybody-requires : tie.Need-everybody-requires
 everybody-requires c κs = let s = c .before .before .before .before .before .before .before .before .before .before .before .before .before .before .before .before .before .before .before in
     let a = s .args in
@@ -54,23 +48,18 @@ everybody-requires c κs = let s = c .before .before .before .before .before .be
     let t = filled-tables (a .head) (a .operators .now) (a .rides .now) (p .0) (f₁ .last .1 .1 .1 .1 .1 .0) (f₂ .last .1 .1 .1 .1 .1 .0) (omega (arith, p .1)) (omega (arith, p .2)) (f₁ .ensures) (f₂ .ensures) in
     t
 
--- src/lib.rt:445:9
 largest-of-requires : tie.Need-largest-of-requires
 largest-of-requires c κs = omega (arith, c .before .before .before .before .before .before .before .before .before .before .before .before .before .before .before .before .before .before .before .before .pre .0 .0 .few-operators, c .everybody .ensures .operators-long)
 
--- src/lib.rt:453:9
 sub-fill-rows : tie.Need-sub-fill-rows
 sub-fill-rows c = search needs
 
--- src/lib.rt:453:9
 part-fill-rows-start : tie.Need-part-fill-rows-start
 part-fill-rows-start c = search needs
 
--- src/lib.rt:453:9
 part-fill-rows-end : tie.Need-part-fill-rows-end
 part-fill-rows-end c = let s = c .before .before .before .before .before .before .before .before .before .before .before .before .before .before .before .before .before .before .before .before .before .before .before in let p = s .pre .0 in let z : s .args .head .operators + s .args .head .rides ≤ length (s .args .row .now) = omega (arith, p .3, p .0 .few-operators, p .0 .few-rides) in z
 
--- src/lib.rt:446:5
 fill-rows-requires : tie.Need-fill-rows-requires
 fill-rows-requires c κs = let s = c .before .before .before .before .before .before .before .before .before .before .before .before .before .before .before .before .before .before .before .before .before .before .before .before .before in
     let a = s .args in
@@ -81,23 +70,18 @@ fill-rows-requires c κs = let s = c .before .before .before .before .before .be
     let e = c .before .before .before .before .before .everybody in
     ((t, e .ensures, first-length (a .row .now) (a .head .operators + a .head .rides) (omega (arith, p .3, p .0 .few-operators, p .0 .few-rides)), p .4), c .before .before .before .before .largest-of .ensures)
 
--- src/lib.rt:424:1
 same-length : tie.Need-same-length
 same-length c = search needs
 
--- src/lib.rt:424:1
 same-length-2 : tie.Need-same-length-2
 same-length-2 c = search needs
 
--- src/lib.rt:424:1
 same-length-3 : tie.Need-same-length-3
 same-length-3 c = search needs
 
--- src/lib.rt:424:1
 same-length-4 : tie.Need-same-length-4
 same-length-4 c = search needs
 
--- src/lib.rt:424:1
 returns : tie.Need-returns
 returns c = let s = c .before .before .before .before .before .before .before .before .before .before .before .before .before .before .before .before .before .before .before .before .before .before .before .before .before .before .before .before .before .before in
     let a = s .args in

@@ -1,3 +1,4 @@
+-- `levels::fill_row` meets its contract: `raise`, from everybody. Assumes nothing.
 use borrow.Author.Needs.{needs}
 use Prim.Native.Nat.{ℕ, _+_, _≤_, _<_, _-_}
 use mathlib.Core.Path.{_≡_, refl, sym, ap, _∙_, subst}
@@ -13,55 +14,42 @@ use Rattle.levels.proofs.fill_row.Reads as reads
 use Rattle.levels.proofs.fill_row.Lts as lts
 use Rattle.levels.proofs.raise.Reads as raise-reads
 
--- src/lib.rt:343:9
 sub-raise : tie.Need-sub-raise
 sub-raise c = search needs
 
--- src/lib.rt:343:9
 part-operators-start : tie.Need-part-operators-start
 part-operators-start c = search needs
 
--- src/lib.rt:343:9
 part-operators-end : tie.Need-part-operators-end
 part-operators-end c = search needs
 
--- src/lib.rt:344:9
 sub-raise-2 : tie.Need-sub-raise-2
 sub-raise-2 c = search needs
 
--- src/lib.rt:344:9
 part-operator-degrees-start : tie.Need-part-operator-degrees-start
 part-operator-degrees-start c = search needs
 
--- src/lib.rt:344:9
 part-operator-degrees-end : tie.Need-part-operator-degrees-end
 part-operator-degrees-end c = let s = c .before .before .before .before .before .before in let z : s .args .n ≤ length (s .args .degrees .operators) = omega (arith, s .pre .1 .operators-long, s .pre .0 .by-ride-bits .wide) in z
 
--- src/lib.rt:345:9
 sub-raise-3 : tie.Need-sub-raise-3
 sub-raise-3 c = search needs
 
--- src/lib.rt:345:9
 part-rides-start : tie.Need-part-rides-start
 part-rides-start c = search needs
 
--- src/lib.rt:345:9
 part-rides-end : tie.Need-part-rides-end
 part-rides-end c = search needs
 
--- src/lib.rt:346:9
 sub-raise-4 : tie.Need-sub-raise-4
 sub-raise-4 c = search needs
 
--- src/lib.rt:346:9
 part-ride-degrees-start : tie.Need-part-ride-degrees-start
 part-ride-degrees-start c = search needs
 
--- src/lib.rt:346:9
 part-ride-degrees-end : tie.Need-part-ride-degrees-end
 part-ride-degrees-end c = let s = c .before .before .before .before .before .before .before .before in let z : s .args .m ≤ length (s .args .degrees .rides) = omega (arith, s .pre .1 .rides-long, s .pre .0 .by-operator-bits .wide) in z
 
--- src/lib.rt:342:5
 raise-requires : tie.Need-raise-requires
 raise-requires c κs = let s = c .before .before .before .before .before .before .before .before .before .before in
     let a = s .args in
@@ -69,11 +57,9 @@ raise-requires c κs = let s = c .before .before .before .before .before .before
     let ones′ : List ℕ = replicate 60 1 in
     ((s .pre .2, row-fits (a .n) (a .m) (a .by-operator .now) (a .by-ride .now) (s .pre .0) ones (a .degrees .operators) ones′ (a .degrees .rides) (a .row .now) refl (s .pre .1 .operators-long) refl (s .pre .1 .rides-long) (s .pre .3) (λ i h. getD-replicate 200 i 1 0 h) (λ i h. getD-replicate 60 i 1 0 h) (s .pre .1)), row-start (a .n) (a .m) (a .by-operator .now) (a .by-ride .now) (s .pre .0) ones (a .degrees .operators) ones′ (a .degrees .rides) (a .row .now) refl (s .pre .1 .operators-long) refl (s .pre .1 .rides-long) (s .pre .3) (λ i h. getD-replicate 200 i 1 0 h) (λ i h. getD-replicate 60 i 1 0 h) (s .pre .1))
 
--- src/lib.rt:326:1
 same-length : tie.Need-same-length
 same-length c = search needs
 
--- src/lib.rt:326:1
 returns : tie.Need-returns
 returns c = let s = c .before .before .before .before .before .before .before .before .before .before .before .before .before .before .before .before .before in
     let a = s .args in

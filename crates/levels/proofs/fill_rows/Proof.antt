@@ -1,3 +1,4 @@
+-- `levels::fill_rows` meets its contract. The loop's invariant: the first a rows are stored, and differ counts their words that differ. Assumes nothing.
 use borrow.Author.Needs.{needs}
 use lib.ListN.{take}
 use mathlib.Core.Path.{ap₂}
@@ -36,25 +37,20 @@ abbrev μ-loop : tie.MeasureT-loop
 μ-loop by-operator by-ride degrees n m high row₀ index₀ w differ₀ a₀ row index differ a =
     m - a
 
--- src/lib.rt:394:5
 loop-holds : tie.Need-loop-holds Inv-loop μ-loop
 loop-holds c = let a = c .before .before .before .before .args in
     (omega arith, refl, refl, no-rows (length (a .row .now)) (λ (b x : ℕ). level (table-graph (a .n) (a .m) (a .by-operator .now)) (suc b) x) (a .index .now), sym (ap (λ (k : ℕ). differing k (a .index .now) (rows (a .m) (length (a .row .now)) (λ (b x : ℕ). level (table-graph (a .n) (a .m) (a .by-operator .now)) (suc b) x))) (let e : 0 * length (a .row .now) ≡ 0 = omega arith in e) ∙ differing-none (a .index .now) (rows (a .m) (length (a .row .now)) (λ (b x : ℕ). level (table-graph (a .n) (a .m) (a .by-operator .now)) (suc b) x))))
 
--- src/lib.rt:402:14
 add-any-row : tie.Need-add-any-row Inv-loop μ-loop
 add-any-row c = search needs
 
--- src/lib.rt:402:13
 cast-any-row : tie.Need-cast-any-row Inv-loop μ-loop
 cast-any-row c = search needs
 
--- src/lib.rt:395:9
 any-row-requires : tie.Need-any-row-requires Inv-loop μ-loop
 any-row-requires c κs = let s = c .before .before .before .before .before .before .before in
     ((s .pre .0 .0, s .pre .0 .1, omega arith, omega (arith, c .before .before .loop .inv .1, s .pre .0 .2)), s .pre .1)
 
--- src/lib.rt:405:18
 mul-at : tie.Need-mul-at Inv-loop μ-loop
 mul-at c = let s = c .before .before .before .before .before .before .before .before .before .before in
     let a = s .args in
@@ -63,7 +59,6 @@ mul-at c = let s = c .before .before .before .before .before .before .before .be
     let inside = row-inside (a .m) w (l .a) w (omega arith) (omega arith) (length (a .index .now)) (subst (λ (z : ℕ). a .m * z ≤ length (a .index .now)) (sym (s .pre .0 .2)) (s .pre .0 .3)) in
     omega (arith, inside)
 
--- src/lib.rt:406:19
 add-end : tie.Need-add-end Inv-loop μ-loop
 add-end c = let s = c .before .before .before .before .before .before .before .before .before .before in
     let a = s .args in
@@ -72,7 +67,6 @@ add-end c = let s = c .before .before .before .before .before .before .before .b
     let inside = row-inside (a .m) w (l .a) w (omega arith) (omega arith) (length (a .index .now)) (subst (λ (z : ℕ). a .m * z ≤ length (a .index .now)) (sym (s .pre .0 .2)) (s .pre .0 .3)) in
     omega (arith, inside)
 
--- src/lib.rt:407:25
 mul-store : tie.Need-mul-store Inv-loop μ-loop
 mul-store c = let s = c .before .before .before .before .before .before .before .before .before .before in
     let a = s .args in
@@ -81,15 +75,12 @@ mul-store c = let s = c .before .before .before .before .before .before .before 
     let inside = row-inside (a .m) w (l .a) w (omega arith) (omega arith) (length (a .index .now)) (subst (λ (z : ℕ). a .m * z ≤ length (a .index .now)) (sym (s .pre .0 .2)) (s .pre .0 .3)) in
     omega (arith, inside, s .fits)
 
--- src/lib.rt:407:25
 sub-store : tie.Need-sub-store Inv-loop μ-loop
 sub-store c = search needs
 
--- src/lib.rt:407:25
 part-store-start : tie.Need-part-store-start Inv-loop μ-loop
 part-store-start c = search needs
 
--- src/lib.rt:407:25
 part-store-end : tie.Need-part-store-end Inv-loop μ-loop
 part-store-end c = let s = c .before .before .before .before .before .before .before .before .before .before in
     let a = s .args in
@@ -98,11 +89,9 @@ part-store-end c = let s = c .before .before .before .before .before .before .be
     let inside = row-inside (a .m) w (l .a) w (omega arith) (omega arith) (length (a .index .now)) (subst (λ (z : ℕ). a .m * z ≤ length (a .index .now)) (sym (s .pre .0 .2)) (s .pre .0 .3)) in
     subst (λ (k : ℕ). l .a * w + w ≤ k) (sym (l .inv .2)) inside
 
--- src/lib.rt:407:19
 store-requires : tie.Need-store-requires Inv-loop μ-loop
 store-requires c κs = search needs
 
--- src/lib.rt:407:9
 add-differ : tie.Need-add-differ Inv-loop μ-loop
 add-differ c = let s = c .before .before .before .before .before .before .before .before .before .before .before .before .before .before .before in
     let a = s .args in
@@ -115,15 +104,12 @@ add-differ c = let s = c .before .before .before .before .before .before .before
     let d = ap₂ _+_ (l .inv .4) (v .1 ∙ ap (λ (k : ℕ). differing k (take (l .a * w + w - l .a * w) (drop (l .a * w) (l .index))) row) long) ∙ differing-row w (a .m) (λ (b x : ℕ). level (table-graph (a .n) (a .m) (a .by-operator .now)) (suc b) x) (a .index .now) (l .a) (omega arith) (l .index) (l .inv .3) row r in
     omega (arith, d, differing-le (a .index .now) (rows (a .m) w (λ (b x : ℕ). level (table-graph (a .n) (a .m) (a .by-operator .now)) (suc b) x)) ((l .a + 1) * w), row-inside (a .m) w (l .a) w (omega arith) (omega arith) (a .m * w) (omega arith), index-small (a .m) w (s .pre .0 .0 .by-operator-bits .wide) (omega (arith, s .pre .0 .2, s .pre .0 .0 .by-ride-bits .wide, s .pre .0 .0 .by-operator-bits .wide)))
 
--- src/lib.rt:408:9
 add-a : tie.Need-add-a Inv-loop μ-loop
 add-a c = search needs
 
--- src/lib.rt:394:5
 loop-less : tie.Need-loop-less Inv-loop μ-loop
 loop-less c = search needs
 
--- src/lib.rt:394:5
 loop-again : tie.Need-loop-again Inv-loop μ-loop
 loop-again c = let s = c .before .before .before .before .before .before .before .before .before .before .before .before .before .before .before in
     let a = s .args in
@@ -141,15 +127,12 @@ loop-again c = let s = c .before .before .before .before .before .before .before
       d,
     )
 
--- src/lib.rt:377:1
 same-length : tie.Need-same-length Inv-loop μ-loop
 same-length c = search needs
 
--- src/lib.rt:377:1
 same-length-2 : tie.Need-same-length-2 Inv-loop μ-loop
 same-length-2 c = search needs
 
--- src/lib.rt:377:1
 returns : tie.Need-returns Inv-loop μ-loop
 returns c = let s = c .before .before .before .before .before .before in
     let a = s .args in

@@ -1,3 +1,4 @@
+-- `levels::largest_of` meets its contract. Assumes nothing.
 use borrow.Author.Needs.{needs}
 use Prim.Native.Nat.{ℕ, _+_, _*_, _≤_, _<_, _-_}
 use mathlib.Core.Path.{_≡_, refl, sym, ap, _∙_, subst}
@@ -10,23 +11,18 @@ use Rattle.levels.proofs.largest_of.Reads as reads
 use Rattle.levels.proofs.largest_of.Lts as lts
 use Rattle.levels.proofs.largest.Reads as largest-reads
 
--- src/lib.rt:279:13
 sub-largest : tie.Need-sub-largest
 sub-largest c = search needs
 
--- src/lib.rt:279:13
 part-largest-start : tie.Need-part-largest-start
 part-largest-start c = search needs
 
--- src/lib.rt:279:13
 part-largest-end : tie.Need-part-largest-end
 part-largest-end c = search needs
 
--- src/lib.rt:279:5
 largest-requires : tie.Need-largest-requires
 largest-requires c κs = search needs
 
--- src/lib.rt:274:1
 returns : tie.Need-returns
 returns c = let s = c .before .before .before .before in λ u h. subst (λ (z : ℕ). z ≤ c .largest .result) (first-at (s .args .degrees .operators) (s .args .n) (s .pre) u 0 h) (c .largest .ensures u (omega (arith, first-length (s .args .degrees .operators) (s .args .n) (s .pre))))
 

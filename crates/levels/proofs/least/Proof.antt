@@ -1,3 +1,4 @@
+-- `levels::least` meets its contract. The loop's invariant: low is the least degree among the first i nodes. Assumes nothing.
 use borrow.Author.Needs.{needs}
 use Prim.Native.Nat.{ℕ, _+_, _≤_, _<_, _-_}
 use mathlib.Core.Path.{_≡_, refl}
@@ -19,35 +20,27 @@ abbrev μ-loop : tie.MeasureT-loop
 μ-loop kept degrees n low₀ i₀ low i =
     n - i
 
--- src/lib.rt:173:5
 loop-holds : tie.Need-loop-holds Inv-loop μ-loop
 loop-holds c = (omega arith, refl, least-none _ _)
 
--- src/lib.rt:174:21
 shared-slice-read-lower : tie.Need-shared-slice-read-lower Inv-loop μ-loop
 shared-slice-read-lower c = search needs
 
--- src/lib.rt:174:30
 shared-slice-read-lower-2 : tie.Need-shared-slice-read-lower-2 Inv-loop μ-loop
 shared-slice-read-lower-2 c = search needs
 
--- src/lib.rt:174:9
 lower-requires : tie.Need-lower-requires Inv-loop μ-loop
 lower-requires c κs = search needs
 
--- src/lib.rt:175:9
 add-i : tie.Need-add-i Inv-loop μ-loop
 add-i c = search needs
 
--- src/lib.rt:173:5
 loop-less : tie.Need-loop-less Inv-loop μ-loop
 loop-less c = search needs
 
--- src/lib.rt:173:5
 loop-again : tie.Need-loop-again Inv-loop μ-loop
 loop-again c = (omega arith, refl, least-more _ _ _ _ _ (c .before .before .before .before .loop .inv .2) (c .lower .ensures))
 
--- src/lib.rt:166:1
 returns : tie.Need-returns Inv-loop μ-loop
 returns c = let e : c .before .loop .i ≡ length (c .before .before .before .before .args .kept .now) = omega arith in rw (← e) (c .before .loop .inv .2)
 

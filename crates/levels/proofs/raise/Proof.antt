@@ -1,3 +1,4 @@
+-- `levels::raise` meets its contract. The loop's invariant: the kept lie between cover (α, β) and cover (α, β - 1), and whoever is removed has its level; β grows. Assumes nothing.
 use borrow.Author.Needs.{needs}
 use Prim.Native.Nat.{ℕ, _+_, _≤_, _<_, _-_}
 use mathlib.Core.Path.{_≡_, refl, sym, ap, _∙_, subst, subst₂}
@@ -23,13 +24,11 @@ abbrev μ-loop : tie.MeasureT-loop
 μ-loop operators₀ operator-degrees₀ rides₀ ride-degrees₀ row₀ by-operator by-ride alpha beta₀ operators operator-degrees rides ride-degrees row beta =
     256 - beta
 
--- src/lib.rt:196:5
 loop-holds : tie.Need-loop-holds Inv-loop μ-loop
 loop-holds c = let s = c .before .before .before .before .before .before .before in
     let a = s .args in
     (omega arith, omega arith, s .pre .0 .1, raising-start _ _ _ (a .by-ride .now) _ (s .pre .0 .0) _ (s .pre .0 .1) (s .pre .1))
 
--- src/lib.rt:197:9
 settle-requires : tie.Need-settle-requires Inv-loop μ-loop
 settle-requires c κs = let s = c .before .before .before .before .before .before .before .before .before .before .before .before .before in
     let a = s .args in
@@ -40,7 +39,6 @@ settle-requires c κs = let s = c .before .before .before .before .before .befor
       subst₂ (λ (k j : ℕ). Raising (table-graph k j (a .by-operator .now)) (a .alpha) (l .beta) w) (sym (f .operators)) (sym (f .rides)) (l .inv .3),
     )
 
--- src/lib.rt:208:13
 least-requires : tie.Need-least-requires Inv-loop μ-loop
 least-requires c κs = let s = c .before .before .before .before .before .before .before .before .before .before .before .before .before .before .before .before .before .before .before .before .before .before .before .before .before .before in
     let a = s .args in
@@ -53,27 +51,21 @@ least-requires c κs = let s = c .before .before .before .before .before .before
     let fits = fits-again (length (a .operators .now)) (length (a .rides .now)) (a .by-operator .now) (a .by-ride .now) (work (l .operators) (l .operator-degrees) (l .rides) (l .ride-degrees) (l .row)) w f (omega arith) (omega arith) (omega arith) (omega arith) (omega arith) in
     omega (arith, fits .rides, fits .ride-degrees)
 
--- src/lib.rt:210:13
 same-length : tie.Need-same-length Inv-loop μ-loop
 same-length c = search needs
 
--- src/lib.rt:210:13
 same-length-2 : tie.Need-same-length-2 Inv-loop μ-loop
 same-length-2 c = search needs
 
--- src/lib.rt:210:13
 same-length-3 : tie.Need-same-length-3 Inv-loop μ-loop
 same-length-3 c = search needs
 
--- src/lib.rt:210:13
 same-length-4 : tie.Need-same-length-4 Inv-loop μ-loop
 same-length-4 c = search needs
 
--- src/lib.rt:210:13
 same-length-5 : tie.Need-same-length-5 Inv-loop μ-loop
 same-length-5 c = search needs
 
--- src/lib.rt:210:13
 returns : tie.Need-returns Inv-loop μ-loop
 returns c = let s = c .before .before .before .before .before .before .before .before .before .before .before .before .before .before .before .before .before .before .before .before .before .before .before .before .before .before .before .before in
     let a = s .args in
@@ -88,11 +80,9 @@ returns c = let s = c .before .before .before .before .before .before .before .b
     let least = subst (λ (k : ℕ). Least k (w .rides) (w .ride-degrees) (q .result)) (fits .rides) (q .ensures) in
     raising-end (length (a .operators .now)) (length (a .rides .now)) (a .by-operator .now) (a .by-ride .now) (a .alpha) (s .pre .0 .0) w fits (l .beta) (l .inv .0) (e .0) (e .1) (q .result) least (omega arith)
 
--- src/lib.rt:212:16
 add-beta : tie.Need-add-beta Inv-loop μ-loop
 add-beta c = search needs
 
--- src/lib.rt:196:5
 loop-less : tie.Need-loop-less Inv-loop μ-loop
 loop-less c = let s = c .before .before .before .before .before .before .before .before .before .before .before .before .before .before .before .before .before .before .before .before .before .before .before .before .before .before .before .before in
     let a = s .args in
@@ -107,7 +97,6 @@ loop-less c = let s = c .before .before .before .before .before .before .before 
     let least = subst (λ (k : ℕ). Least k (w .rides) (w .ride-degrees) (q .result)) (fits .rides) (q .ensures) in
     omega (arith, least-high (length (a .operators .now)) (length (a .rides .now)) (a .by-operator .now) (a .by-ride .now) (a .alpha) (s .pre .0 .0) w fits (l .beta) (l .inv .0) (e .0) (e .1) (q .result) least (l .inv .1), least .bound)
 
--- src/lib.rt:196:5
 loop-again : tie.Need-loop-again Inv-loop μ-loop
 loop-again c = let s = c .before .before .before .before .before .before .before .before .before .before .before .before .before .before .before .before .before .before .before .before .before .before .before .before .before .before .before .before in
     let a = s .args in

@@ -1,3 +1,4 @@
+-- `levels::round` meets its contract: both sweeps remove only who is outside the cover. Assumes nothing.
 use borrow.Author.Needs.{needs}
 use Prim.Native.Nat.{ℕ, _+_, _≤_, _<_, _-_}
 use mathlib.Core.Path.{_≡_, refl, sym, ap, _∙_, subst}
@@ -10,80 +11,62 @@ use Rattle.levels.proofs.round.Reads as reads
 use Rattle.levels.proofs.round.Lts as lts
 use Rattle.levels.proofs.sweep.Reads as sweep-reads
 
--- src/lib.rt:92:15
 add-end : tie.Need-add-end
 add-end c = search needs
 
--- src/lib.rt:93:18
 sub-level : tie.Need-sub-level
 sub-level c = search needs
 
--- src/lib.rt:93:17
 cast-level : tie.Need-cast-level
 cast-level c = search needs
 
--- src/lib.rt:98:9
 mul-sweep : tie.Need-mul-sweep
 mul-sweep c = search needs
 
--- src/lib.rt:98:9
 sub-sweep : tie.Need-sub-sweep
 sub-sweep c = search needs
 
--- src/lib.rt:98:9
 part-sweep-start : tie.Need-part-sweep-start
 part-sweep-start c = search needs
 
--- src/lib.rt:98:9
 part-sweep-end : tie.Need-part-sweep-end
 part-sweep-end c = search needs
 
--- src/lib.rt:94:5
 sweep-requires : tie.Need-sweep-requires
 sweep-requires c κs = let s = c .before .before .before .before .before .before .before .before .before .before .before in
     let a = s .args in
     rides-part (length (a .operators .now)) (length (a .rides .now)) (a .by-operator .now) (a .by-ride .now) (a .alpha) (a .beta) (s .pre .0 .0) (s .pre .0 .1) (Rattle.levels.specs.Row.work (a .operators .now) (a .operator-degrees .now) (a .rides .now) (a .ride-degrees .now) (a .row .now)) (s .pre .0 .2) (s .pre .1)
 
--- src/lib.rt:108:9
 sub-sweep-2 : tie.Need-sub-sweep-2
 sub-sweep-2 c = search needs
 
--- src/lib.rt:108:9
 part-sweep-start-2 : tie.Need-part-sweep-start-2
 part-sweep-start-2 c = search needs
 
--- src/lib.rt:108:9
 part-sweep-end-2 : tie.Need-part-sweep-end-2
 part-sweep-end-2 c = search needs
 
--- src/lib.rt:104:5
 sweep-requires-2 : tie.Need-sweep-requires-2
 sweep-requires-2 c κs = let s = c .before .before .before .before .before .before .before .before .before .before .before .before .before .before .before .before .before .before .before .before .before .before in
     let a = s .args in
     let v = c .before .before .before .before .before .before .before .before .before .before .sweep in
     operators-part (length (a .operators .now)) (length (a .rides .now)) (a .by-operator .now) (a .by-ride .now) (a .alpha) (a .beta) (s .pre .0 .0) (s .pre .0 .1) (Rattle.levels.specs.Row.work (a .operators .now) (a .operator-degrees .now) (a .rides .now) (a .ride-degrees .now) (a .row .now)) (s .pre .0 .2) (s .pre .1) _ _ _ _ (omega arith) (omega arith) (omega arith) (v .ensures)
 
--- src/lib.rt:76:1
 same-length : tie.Need-same-length
 same-length c = search needs
 
--- src/lib.rt:76:1
 same-length-2 : tie.Need-same-length-2
 same-length-2 c = search needs
 
--- src/lib.rt:76:1
 same-length-3 : tie.Need-same-length-3
 same-length-3 c = search needs
 
--- src/lib.rt:76:1
 same-length-4 : tie.Need-same-length-4
 same-length-4 c = search needs
 
--- src/lib.rt:76:1
 same-length-5 : tie.Need-same-length-5
 same-length-5 c = search needs
 
--- src/lib.rt:76:1
 returns : tie.Need-returns
 returns c = let s = c .before .before .before .before .before .before .before .before .before .before .before .before .before .before .before .before .before .before .before .before .before .before .before .before .before .before .before .before .before in
     let a = s .args in

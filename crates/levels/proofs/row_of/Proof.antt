@@ -1,3 +1,4 @@
+-- `levels::row_of` meets its contract: tables of zeros are filled, and one row from them. Assumes nothing.
 use borrow.Author.Needs.{needs}
 use Prim.Native.Nat.{ℕ, _+_, _*_, _≤_, _<_, _-_}
 use mathlib.Core.Path.{_≡_, refl}
@@ -8,23 +9,18 @@ use Rattle.levels.proofs.row_of.Reads as reads
 use Rattle.levels.proofs.row_of.Lts as lts
 use Rattle.levels.proofs.row_over.Reads as row-over-reads
 
--- src/lib.rt:512:9
 slice-aggregate-row-over : tie.Need-slice-aggregate-row-over
 slice-aggregate-row-over c = search needs
 
--- src/lib.rt:513:9
 slice-aggregate-row-over-2 : tie.Need-slice-aggregate-row-over-2
 slice-aggregate-row-over-2 c = search needs
 
--- src/lib.rt:508:5
 row-over-requires : tie.Need-row-over-requires
 row-over-requires c κs = let s = c .before .before .before .before .before .before in ((s .pre .0, refl, refl, s .pre .1, s .pre .2), (getD-zeros 12000, getD-zeros 12000))
 
--- src/lib.rt:502:1
 same-length : tie.Need-same-length
 same-length c = search needs
 
--- src/lib.rt:502:1
 returns : tie.Need-returns
 returns c = search needs
 

@@ -1,3 +1,4 @@
+-- `levels::row_over` meets its contract: the tables hold the clearances, and one row is filled from them. Assumes nothing.
 use borrow.Author.Needs.{needs}
 use Prim.Native.Nat.{ℕ, _+_, _*_, _≤_, _<_, _-_}
 use mathlib.Core.Path.{_≡_, refl, _∙_}
@@ -11,31 +12,25 @@ use Rattle.levels.proofs.everybody.Reads as everybody-reads
 use Rattle.levels.proofs.fill_row.Reads as fill-row-reads
 use Rattle.tables.proofs.fill.Reads as fill-reads
 
--- src/lib.rt:492:13
 cast-n : tie.Need-cast-n
 cast-n c = search needs
 
--- src/lib.rt:493:13
 cast-m : tie.Need-cast-m
 cast-m c = search needs
 
--- src/lib.rt:494:17
 cast-pairs : tie.Need-cast-pairs
 cast-pairs c = search needs
 
--- src/lib.rt:495:5
 fill-requires : tie.Need-fill-requires
 fill-requires c κs = let s = c .before .before .before .before .before .before .before .before .before in
     let p = s .pre .0 in
     ((p .0 .operators-long, p .0 .rides-long, omega (arith, p .1), range-operators _ _ _ (p .0)), s .pre .1 .0)
 
--- src/lib.rt:496:5
 fill-requires-2 : tie.Need-fill-requires-2
 fill-requires-2 c κs = let s = c .before .before .before .before .before .before .before .before .before .before .before .before .before in
     let p = s .pre .0 in
     ((p .0 .rides-long, p .0 .operators-long, omega (arith, p .2), range-rides _ _ _ (p .0)), s .pre .1 .1)
 
--- src/lib.rt:497:9
 everybody-requires : tie.Need-everybody-requires
 everybody-requires c κs = let s = c .before .before .before .before .before .before .before .before .before .before .before .before .before .before .before .before .before .before in
     let a = s .args in
@@ -44,7 +39,6 @@ everybody-requires c κs = let s = c .before .before .before .before .before .be
     let f₂ = c .before .before .before .before .fill2 in
     filled-tables (a .head) (a .operators .now) (a .rides .now) (p .0) (f₁ .last .1 .1 .1 .1 .1 .0) (f₂ .last .1 .1 .1 .1 .1 .0) (omega (arith, p .1)) (omega (arith, p .2)) (f₁ .ensures) (f₂ .ensures)
 
--- src/lib.rt:498:5
 fill-row-requires : tie.Need-fill-row-requires
 fill-row-requires c κs = let s = c .before .before .before .before .before .before .before .before .before .before .before .before .before .before .before .before .before .before .before .before .before .before in
     let a = s .args in
@@ -53,19 +47,15 @@ fill-row-requires c κs = let s = c .before .before .before .before .before .bef
     let f₂ = c .before .before .before .before .before .before .before .before .fill2 in
     (filled-tables (a .head) (a .operators .now) (a .rides .now) (p .0) (f₁ .last .1 .1 .1 .1 .1 .0) (f₂ .last .1 .1 .1 .1 .1 .0) (omega (arith, p .1)) (omega (arith, p .2)) (f₁ .ensures) (f₂ .ensures), c .before .before .before .everybody .ensures, p .3, p .4)
 
--- src/lib.rt:478:1
 same-length : tie.Need-same-length
 same-length c = search needs
 
--- src/lib.rt:478:1
 same-length-2 : tie.Need-same-length-2
 same-length-2 c = search needs
 
--- src/lib.rt:478:1
 same-length-3 : tie.Need-same-length-3
 same-length-3 c = search needs
 
--- src/lib.rt:478:1
 returns : tie.Need-returns
 returns c = let s = c .before .before .before .before .before .before .before .before .before .before .before .before .before .before .before .before .before .before .before .before .before .before .before .before .before in
     let a = s .args in

@@ -1,3 +1,4 @@
+-- `levels::settle` meets its contract. The loop's invariant: no member of the cover is removed, and whoever is removed has its level; each turn but the last removes an operator. Assumes nothing.
 use borrow.Author.Needs.{needs}
 use mathlib.Core.Path.{subst₂}
 use Rattle.model.specs.Graph.{Graph}
@@ -25,11 +26,9 @@ abbrev μ-loop : tie.MeasureT-loop
 μ-loop operators₀ operator-degrees₀ rides₀ ride-degrees₀ row₀ by-operator by-ride alpha beta operators operator-degrees rides ride-degrees row =
     count (length operators₀) (marked operators)
 
--- src/lib.rt:132:5
 loop-holds : tie.Need-loop-holds Inv-loop μ-loop
 loop-holds c = let s = c .before .before .before .before .before .before .before in (s .pre .0 .2, s .pre .1)
 
--- src/lib.rt:133:12
 round-requires : tie.Need-round-requires Inv-loop μ-loop
 round-requires c κs = let s = c .before .before .before .before .before .before .before .before .before .before .before .before .before in
     let a = s .args in
@@ -39,27 +38,21 @@ round-requires c κs = let s = c .before .before .before .before .before .before
       subst₂ (λ (k j : ℕ). Raising (table-graph k j (a .by-operator .now)) (a .alpha) (a .beta) w) (sym (l .inv .0 .operators)) (sym (l .inv .0 .rides)) (l .inv .1),
     )
 
--- src/lib.rt:146:13
 same-length : tie.Need-same-length Inv-loop μ-loop
 same-length c = search needs
 
--- src/lib.rt:146:13
 same-length-2 : tie.Need-same-length-2 Inv-loop μ-loop
 same-length-2 c = search needs
 
--- src/lib.rt:146:13
 same-length-3 : tie.Need-same-length-3 Inv-loop μ-loop
 same-length-3 c = search needs
 
--- src/lib.rt:146:13
 same-length-4 : tie.Need-same-length-4 Inv-loop μ-loop
 same-length-4 c = search needs
 
--- src/lib.rt:146:13
 same-length-5 : tie.Need-same-length-5 Inv-loop μ-loop
 same-length-5 c = search needs
 
--- src/lib.rt:146:13
 returns : tie.Need-returns Inv-loop μ-loop
 returns c = let s = c .before .before .before .before .before .before .before .before .before .before .before .before .before .before .before .before .before .before .before .before .before .before .before .before .before in
     let a = s .args in
@@ -69,7 +62,6 @@ returns c = let s = c .before .before .before .before .before .before .before .b
     let r = subst₂ (λ (k j : ℕ). Rounded (table-graph k j (a .by-operator .now)) (a .alpha) (a .beta) (l .operators) (v .result) w) (l .inv .0 .operators) (l .inv .0 .rides) (v .ensures) in
     (r .raising, r .settled (omega arith))
 
--- src/lib.rt:132:5
 loop-less : tie.Need-loop-less Inv-loop μ-loop
 loop-less c = let s = c .before .before .before .before .before .before .before .before .before .before .before .before .before .before .before .before .before .before .before .before .before .before .before .before .before in
     let a = s .args in
@@ -79,7 +71,6 @@ loop-less c = let s = c .before .before .before .before .before .before .before 
     let r = subst₂ (λ (k j : ℕ). Rounded (table-graph k j (a .by-operator .now)) (a .alpha) (a .beta) (l .operators) (v .result) w) (l .inv .0 .operators) (l .inv .0 .rides) (v .ensures) in
     omega (arith, r .fewer)
 
--- src/lib.rt:132:5
 loop-again : tie.Need-loop-again Inv-loop μ-loop
 loop-again c = let s = c .before .before .before .before .before .before .before .before .before .before .before .before .before .before .before .before .before .before .before .before .before .before .before .before .before in
     let a = s .args in

@@ -1,3 +1,4 @@
+-- `levels::store` meets its contract. The loop's invariant: the first i words are stored, and differ counts those that differ. Assumes nothing.
 use borrow.Author.Needs.{needs}
 use Rattle.model.proofs.Count.{bit-le}
 use Rattle.model.proofs.Differ.{differing-none, differing-more, differing-le}
@@ -30,61 +31,47 @@ abbrev μ-loop : tie.MeasureT-loop
 μ-loop part₀ row n differ₀ i₀ part differ i =
     n - i
 
--- src/lib.rt:299:5
 loop-holds : tie.Need-loop-holds Inv-loop μ-loop
 loop-holds c = (omega arith, refl, refl, sym (differing-none _ _), (λ k l. absurd (let z : ⊥ = omega arith in z)), (λ k l. refl))
 
--- src/lib.rt:300:27
 mul-unequal : tie.Need-mul-unequal Inv-loop μ-loop
 mul-unequal c = search needs
 
--- src/lib.rt:300:27
 slice-read-unequal : tie.Need-slice-read-unequal Inv-loop μ-loop
 slice-read-unequal c = search needs
 
--- src/lib.rt:300:36
 mul-unequal-2 : tie.Need-mul-unequal-2 Inv-loop μ-loop
 mul-unequal-2 c = search needs
 
--- src/lib.rt:300:36
 shared-slice-read-unequal : tie.Need-shared-slice-read-unequal Inv-loop μ-loop
 shared-slice-read-unequal c = search needs
 
--- src/lib.rt:300:19
 unequal-requires : tie.Need-unequal-requires Inv-loop μ-loop
 unequal-requires c κs = search needs
 
--- src/lib.rt:300:9
 add-differ : tie.Need-add-differ Inv-loop μ-loop
 add-differ c = let l = c .before .before .before .before .loop in
     let s = c .before .before .before .before .before .before .before in
     omega (arith, l .inv .3, differing-le (s .args .part .now) (s .args .row .now) (l .i), c .unequal .ensures, bit-le (not (eqb (getD (l .part) (l .i) 0) (getD (s .args .row .now) (l .i) 0))), s .pre .1, s .pre .0)
 
--- src/lib.rt:301:19
 mul-part : tie.Need-mul-part Inv-loop μ-loop
 mul-part c = search needs
 
--- src/lib.rt:301:19
 shared-slice-read-part : tie.Need-shared-slice-read-part Inv-loop μ-loop
 shared-slice-read-part c = search needs
 
--- src/lib.rt:301:9
 mul-part-2 : tie.Need-mul-part-2 Inv-loop μ-loop
 mul-part-2 c = search needs
 
--- src/lib.rt:301:9
 slice-write-part : tie.Need-slice-write-part Inv-loop μ-loop
 slice-write-part c = search needs
 
--- src/lib.rt:302:9
 add-i : tie.Need-add-i Inv-loop μ-loop
 add-i c = search needs
 
--- src/lib.rt:299:5
 loop-less : tie.Need-loop-less Inv-loop μ-loop
 loop-less c = search needs
 
--- src/lib.rt:299:5
 loop-again : tie.Need-loop-again Inv-loop μ-loop
 loop-again c = let l = c .before .before .before .before .before .loop in
     let a = c .before .before .before .before .before .before .before .before .args in
@@ -98,11 +85,9 @@ loop-again c = let l = c .before .before .before .before .before .loop in
       left-alone f (a .part .now) (l .part) (l .i) _ fits refl (l .inv .5),
     )
 
--- src/lib.rt:292:1
 same-length : tie.Need-same-length Inv-loop μ-loop
 same-length c = search needs
 
--- src/lib.rt:292:1
 returns : tie.Need-returns Inv-loop μ-loop
 returns c = let l = c .before .loop in
     let s = c .before .before .before .before in

@@ -1,3 +1,4 @@
+-- `levels::unequal` meets its contract. Assumes nothing.
 use borrow.Author.Needs.{needs}
 use mathlib.Core.Path.{sym, ap}
 use mathlib.Core.Bool.{Bool, not}
@@ -8,11 +9,9 @@ use Rattle.levels.proofs.unequal.Tie as tie
 use Rattle.levels.proofs.unequal.Reads as reads
 use Rattle.levels.proofs.unequal.Lts as lts
 
--- src/lib.rt:285:1
 returns : tie.Need-returns
 returns c = sym (ap (λ (b : Bool). bit (not b)) (eq-eqb (c .before .args .a) (c .before .args .b) (c .if1 .taken)))
 
--- src/lib.rt:285:1
 returns-2 : tie.Need-returns-2
 returns-2 c = sym (ap (λ (b : Bool). bit (not b)) (ne-eqb (c .before .args .a) (c .before .args .b) (c .if1 .left)))
 

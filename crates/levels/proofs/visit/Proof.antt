@@ -1,3 +1,4 @@
+-- `levels::visit` meets its contract: the node stays, or its row is subtracted from the others' degrees. Assumes nothing.
 use borrow.Author.Needs.{needs}
 use Prim.Native.Nat.{ℕ, _+_, _*_, _≤_, _<_, _-_}
 use mathlib.Core.Path.{_≡_, refl, sym, ap, _∙_, subst}
@@ -10,68 +11,55 @@ use Rattle.levels.proofs.visit.Tie as tie
 use Rattle.levels.proofs.visit.Reads as reads
 use Rattle.levels.proofs.visit.Lts as lts
 
--- src/lib.rt:37:8
 slice-read-if1 : tie.Need-slice-read-if1
 slice-read-if1 c = search needs
 
--- src/lib.rt:38:9
 returns : tie.Need-returns
 returns c =
     let a = c .before .before .before .before .before .before .before .args in
     visited-kept _ _ _ _ _ _ _ _ _ (removed-before (a .kept .now) (a .degrees .now) (a .limit) (a .i) (c .if1 .taken))
 
--- src/lib.rt:40:17
 shared-slice-read-if2 : tie.Need-shared-slice-read-if2
 shared-slice-read-if2 c = search needs
 
--- src/lib.rt:41:9
 returns-2 : tie.Need-returns-2
 returns-2 c =
     let a = c .before .before .before .before .before .before .before .before .before .args in
     visited-kept _ _ _ _ _ _ _ _ _ (degree-enough (a .kept .now) (a .degrees .now) (a .limit) (a .i) (c .if2 .taken))
 
--- src/lib.rt:43:5
 slice-write-kept : tie.Need-slice-write-kept
 slice-write-kept c = search needs
 
--- src/lib.rt:44:5
 mul-levels : tie.Need-mul-levels
 mul-levels c = search needs
 
--- src/lib.rt:44:5
 slice-write-levels : tie.Need-slice-write-levels
 slice-write-levels c = search needs
 
--- src/lib.rt:45:14
 mul-at : tie.Need-mul-at
 mul-at c =
     let s = c .before .before .before .before .before .before .before .before .before in
     let a = s .args in
     omega (arith, row-inside (length (a .kept .now)) (a .width) (a .i) (length (a .others .now)) (s .pre .1) (s .pre .0 .table .wide) (length (a .table .now)) (s .pre .0 .table .size))
 
--- src/lib.rt:46:15
 add-end : tie.Need-add-end
 add-end c =
     let s = c .before .before .before .before .before .before .before .before .before in
     let a = s .args in
     omega (arith, row-inside (length (a .kept .now)) (a .width) (a .i) (length (a .others .now)) (s .pre .1) (s .pre .0 .table .wide) (length (a .table .now)) (s .pre .0 .table .size))
 
--- src/lib.rt:47:22
 sub-subtract : tie.Need-sub-subtract
 sub-subtract c = omega arith
 
--- src/lib.rt:47:22
 part-subtract-start : tie.Need-part-subtract-start
 part-subtract-start c = search needs
 
--- src/lib.rt:47:22
 part-subtract-end : tie.Need-part-subtract-end
 part-subtract-end c =
     let s = c .before .before .before .before .before .before .before .before .before .before in
     let a = s .args in
     row-inside (length (a .kept .now)) (a .width) (a .i) (length (a .others .now)) (s .pre .1) (s .pre .0 .table .wide) (length (a .table .now)) (s .pre .0 .table .size)
 
--- src/lib.rt:47:5
 subtract-requires : tie.Need-subtract-requires
 subtract-requires c κs =
     let s = c .before .before .before .before .before .before .before .before .before .before .before in
@@ -80,19 +68,15 @@ subtract-requires c κs =
     let l = part-length (a .table .now) (a .i * a .width) (length (a .others .now)) inside in
     (omega (arith, l), λ j h. subst (λ (z : ℕ). z ≤ getD (a .others .now) j 0) (sym (part-at (a .table .now) (a .i * a .width) (length (a .others .now)) inside j 0 h)) (row-counted (a .table .now) (a .width) (a .kept .now) (a .degrees .now) (a .levels .now) (a .others .now) (s .pre .0) (a .i) (s .pre .1) j h (omega arith)))
 
--- src/lib.rt:23:1
 same-length : tie.Need-same-length
 same-length c = search needs
 
--- src/lib.rt:23:1
 same-length-2 : tie.Need-same-length-2
 same-length-2 c = search needs
 
--- src/lib.rt:23:1
 same-length-3 : tie.Need-same-length-3
 same-length-3 c = search needs
 
--- src/lib.rt:23:1
 returns-3 : tie.Need-returns-3
 returns-3 c =
     let s = c .before .before .before .before .before .before .before .before .before .before .before .before .before .before in

@@ -1,3 +1,4 @@
+-- `refusals::bad_marks` meets its contract. The loop's invariant: the first i marks are 0 or 1. Assumes nothing.
 use borrow.Author.Needs.{needs}
 use Prim.Native.Nat.{ℕ, _+_, _*_, _≤_, _<_, _-_}
 use mathlib.Core.Path.{_≡_, refl, sym, ap, _∙_}
@@ -20,47 +21,36 @@ abbrev μ-loop : tie.MeasureT-loop
 μ-loop marks w i₀ i =
     w - i
 
--- src/lib.rt:122:13
 cast-w : tie.Need-cast-w Inv-loop μ-loop
 cast-w c = search needs
 
--- src/lib.rt:122:39
 cast-w-2 : tie.Need-cast-w-2 Inv-loop μ-loop
 cast-w-2 c = search needs
 
--- src/lib.rt:122:13
 add-w : tie.Need-add-w Inv-loop μ-loop
 add-w c = search needs
 
--- src/lib.rt:124:5
 loop-holds : tie.Need-loop-holds Inv-loop μ-loop
 loop-holds c = (omega arith, λ k l. absurd (let z : ⊥ = omega arith in z))
 
--- src/lib.rt:125:16
 mul-if1 : tie.Need-mul-if1 Inv-loop μ-loop
 mul-if1 c = search needs
 
--- src/lib.rt:125:16
 shared-slice-read-if1 : tie.Need-shared-slice-read-if1 Inv-loop μ-loop
 shared-slice-read-if1 c = search needs
 
--- src/lib.rt:126:13
 returns : tie.Need-returns Inv-loop μ-loop
 returns c = let a = c .before .before .before .before .before .before .args in bad-mark (a .head) (a .marks .now) (a .marks .now) (a .marks .now) (c .before .before .before .loop .i) (omega arith) (omega arith)
 
--- src/lib.rt:128:9
 add-i : tie.Need-add-i Inv-loop μ-loop
 add-i c = search needs
 
--- src/lib.rt:124:5
 loop-less : tie.Need-loop-less Inv-loop μ-loop
 loop-less c = search needs
 
--- src/lib.rt:124:5
 loop-again : tie.Need-loop-again Inv-loop μ-loop
 loop-again c = let l = c .before .before .before .loop in (omega arith, below-more _ _ (l .inv .1) (omega arith))
 
--- src/lib.rt:118:1
 returns-2 : tie.Need-returns-2 Inv-loop μ-loop
 returns-2 c = let a = c .before .before .before .before .args in good-marks (a .head) (a .marks .now) (a .marks .now) (a .marks .now) (λ i h. c .before .loop .inv .1 i (omega arith))
 

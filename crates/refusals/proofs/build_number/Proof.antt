@@ -1,3 +1,4 @@
+-- `refusals::build_number` meets its contract: 1 to 5 first, then 9. Assumes nothing.
 use borrow.Author.Needs.{needs}
 use mathlib.Core.Path.{subst}
 use mathlib.Core.Bool.{Bool}
@@ -16,31 +17,26 @@ use Rattle.refusals.proofs.build_number.Lts as lts
 use Rattle.refusals.proofs.short_board.Reads as short-board-reads
 use Rattle.refusals.proofs.table_number.Reads as table-number-reads
 
--- src/lib.rt:63:9
 short-board-requires : tie.Need-short-board-requires
 short-board-requires c κs = search needs
 
--- src/lib.rt:64:9
 table-number-requires : tie.Need-table-number-requires
 table-number-requires c κs = let a = c .before .before .before .before .before .args in
     let b = lent (a .head) (a .operators .now) (a .rides .now) (a .stamps .now) (a .index .now) in
     λ e. let l = board-long b (λ t. subst T (sym (c .short-board .ensures) ∙ e) t) in (l .0, l .1)
 
--- src/lib.rt:66:9
 returns : tie.Need-returns
 returns c = let a = c .before .before .before .before .before .before .before .args in
     let b = lent (a .head) (a .operators .now) (a .rides .now) (a .stamps .now) (a .index .now) in
     let e = c .before .table-number .ensures ∙ ap (λ (z : Bool). lowest-number (table-cases (a .head) z (a .operators .now) (a .rides .now))) (c .before .before .short-board .ensures) in
     build-table b (a .start) _ e (omega arith)
 
--- src/lib.rt:69:9
 returns-2 : tie.Need-returns-2
 returns-2 c = let a = c .before .before .before .before .before .before .before .before .args in
     let b = lent (a .head) (a .operators .now) (a .rides .now) (a .stamps .now) (a .index .now) in
     let e = c .before .before .table-number .ensures ∙ ap (λ (z : Bool). lowest-number (table-cases (a .head) z (a .operators .now) (a .rides .now))) (c .before .before .before .short-board .ensures) in
     build-9 b (a .start) _ e (omega arith) (omega arith)
 
--- src/lib.rt:53:1
 returns-3 : tie.Need-returns-3
 returns-3 c = let a = c .before .before .before .before .before .before .before .before .args in
     let b = lent (a .head) (a .operators .now) (a .rides .now) (a .stamps .now) (a .index .now) in

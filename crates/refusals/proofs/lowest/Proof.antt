@@ -1,3 +1,4 @@
+-- `refusals::lowest` meets its contract. Assumes nothing.
 use mathlib.Core.Path.{sym, _∙_, subst}
 use lib.Dec.{T}
 use Rattle.model.proofs.Refusal.{lowest-here, lowest-skip}
@@ -6,11 +7,9 @@ use Rattle.refusals.proofs.lowest.Tie as tie
 use Rattle.refusals.proofs.lowest.Reads as reads
 use Rattle.refusals.proofs.lowest.Lts as lts
 
--- src/lib.rt:82:9
 returns : tie.Need-returns
 returns c = λ cs e. sym (lowest-here _ _ cs (subst T (sym (c .if1 .taken)) tt))
 
--- src/lib.rt:78:1
 returns-2 : tie.Need-returns-2
 returns-2 c = λ cs e. e ∙ sym (lowest-skip _ _ cs (λ t. subst T (c .if1 .left) t))
 

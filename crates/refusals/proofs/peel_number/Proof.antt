@@ -1,3 +1,4 @@
+-- `refusals::peel_number` meets its contract: 1 to 5 first, then 11 and 12. Assumes nothing.
 use borrow.Author.Needs.{needs}
 use Prim.Native.Nat.{ℕ, _+_, _*_, _≤_, _<_, _-_}
 use mathlib.Core.Path.{_≡_, refl, sym, ap, _∙_, subst}
@@ -18,46 +19,38 @@ use Rattle.refusals.proofs.bad_marks.Reads as bad-marks-reads
 use Rattle.refusals.proofs.short_peel.Reads as short-peel-reads
 use Rattle.refusals.proofs.table_number.Reads as table-number-reads
 
--- src/lib.rt:144:9
 short-peel-requires : tie.Need-short-peel-requires
 short-peel-requires c κs = search needs
 
--- src/lib.rt:145:9
 table-number-requires : tie.Need-table-number-requires
 table-number-requires c κs = let a = c .before .before .before .before .args in
     λ e. let l = peel-long (a .head) (a .operators .now) (a .rides .now) (a .marks .now) (λ t. subst T (sym (c .short-peel .ensures) ∙ e) t) in (l .0, l .1)
 
--- src/lib.rt:147:9
 returns : tie.Need-returns
 returns c = let a = c .before .before .before .before .before .before .args in
     let e = c .before .table-number .ensures ∙ ap (λ (z : Bool). lowest-number (table-cases (a .head) z (a .operators .now) (a .rides .now))) (c .before .before .short-peel .ensures) in
     peel-table (a .head) (a .operators .now) (a .rides .now) (a .marks .now) (a .alpha) (a .beta) _ e (omega arith)
 
--- src/lib.rt:150:9
 returns-2 : tie.Need-returns-2
 returns-2 c = let a = c .before .before .before .before .before .before .before .args in
     let e = c .before .before .table-number .ensures ∙ ap (λ (z : Bool). lowest-number (table-cases (a .head) z (a .operators .now) (a .rides .now))) (c .before .before .before .short-peel .ensures) in
     peel-11 (a .head) (a .operators .now) (a .rides .now) (a .marks .now) (a .alpha) (a .beta) _ e (omega arith) (alpha-zero (a .alpha) (a .beta) (omega arith))
 
--- src/lib.rt:153:9
 returns-3 : tie.Need-returns-3
 returns-3 c = let a = c .before .before .before .before .before .before .before .before .args in
     let e = c .before .before .before .table-number .ensures ∙ ap (λ (z : Bool). lowest-number (table-cases (a .head) z (a .operators .now) (a .rides .now))) (c .before .before .before .before .short-peel .ensures) in
     peel-11 (a .head) (a .operators .now) (a .rides .now) (a .marks .now) (a .alpha) (a .beta) _ e (omega arith) (beta-zero (a .alpha) (a .beta) (omega arith))
 
--- src/lib.rt:155:8
 bad-marks-requires : tie.Need-bad-marks-requires
 bad-marks-requires c κs = let a = c .before .before .before .before .before .before .before .before .args in
     let e = c .before .before .before .table-number .ensures ∙ ap (λ (z : Bool). lowest-number (table-cases (a .head) z (a .operators .now) (a .rides .now))) (c .before .before .before .before .short-peel .ensures) in
     peel-long (a .head) (a .operators .now) (a .rides .now) (a .marks .now) (table-long (a .head) (short-parts (a .head) (a .operators .now) (a .rides .now) (a .marks .now)) (a .operators .now) (a .rides .now) (sym e ∙ omega arith)) .2
 
--- src/lib.rt:156:9
 returns-4 : tie.Need-returns-4
 returns-4 c = let a = c .before .before .before .before .before .before .before .before .before .before .args in
     let e = c .before .before .before .before .before .table-number .ensures ∙ ap (λ (z : Bool). lowest-number (table-cases (a .head) z (a .operators .now) (a .rides .now))) (c .before .before .before .before .before .before .short-peel .ensures) in
     peel-12 (a .head) (a .operators .now) (a .rides .now) (a .marks .now) (a .alpha) (a .beta) _ e (omega arith) (omega arith) (omega arith) (sym (c .before .bad-marks .ensures) ∙ c .if4 .taken)
 
--- src/lib.rt:134:1
 returns-5 : tie.Need-returns-5
 returns-5 c = let a = c .before .before .before .before .before .before .before .before .before .before .args in
     let e = c .before .before .before .before .before .table-number .ensures ∙ ap (λ (z : Bool). lowest-number (table-cases (a .head) z (a .operators .now) (a .rides .now))) (c .before .before .before .before .before .before .short-peel .ensures) in

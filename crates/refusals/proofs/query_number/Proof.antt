@@ -1,3 +1,4 @@
+-- `refusals::query_number` meets its contract: its numbers in ascending order. Assumes nothing.
 use borrow.Author.Needs.{needs}
 use Prim.Native.Nat.{ℕ, _+_, _*_, _≤_, _<_, _-_}
 use native.Mathlib.Omega.{arith}
@@ -8,51 +9,39 @@ use Rattle.refusals.proofs.query_number.Reads as reads
 use Rattle.refusals.proofs.query_number.Lts as lts
 use Rattle.refusals.proofs.lowest.Reads as lowest-reads
 
--- src/lib.rt:91:13
 cast-n : tie.Need-cast-n
 cast-n c = search needs
 
--- src/lib.rt:92:13
 cast-m : tie.Need-cast-m
 cast-m c = search needs
 
--- src/lib.rt:93:39
 lowest-requires : tie.Need-lowest-requires
 lowest-requires c κs = search needs
 
--- src/lib.rt:93:9
 lowest-requires-2 : tie.Need-lowest-requires-2
 lowest-requires-2 c κs = search needs
 
--- src/lib.rt:95:28
 add-lowest : tie.Need-add-lowest
 add-lowest c = search needs
 
--- src/lib.rt:95:23
 mul-lowest : tie.Need-mul-lowest
 mul-lowest c = let h = c .before .before .before .before .before .before .args .head in omega (arith, product-fits (h .operators) (h .rides) (omega arith) (omega arith), product-fits (h .rides) (h .rides) (omega arith) (omega arith))
 
--- src/lib.rt:97:30
 add-lowest-2 : tie.Need-add-lowest-2
 add-lowest-2 c = search needs
 
--- src/lib.rt:97:9
 lowest-requires-3 : tie.Need-lowest-requires-3
 lowest-requires-3 c κs = search needs
 
--- src/lib.rt:94:9
 lowest-requires-4 : tie.Need-lowest-requires-4
 lowest-requires-4 c κs = search needs
 
--- src/lib.rt:99:37
 lowest-requires-5 : tie.Need-lowest-requires-5
 lowest-requires-5 c κs = search needs
 
--- src/lib.rt:99:5
 lowest-requires-6 : tie.Need-lowest-requires-6
 lowest-requires-6 c κs = search needs
 
--- src/lib.rt:88:1
 returns : tie.Need-returns
 returns c = let a = c .before .before .before .before .before .before .before .before .before .before .before .before .args in
     query-lowest (a .head) (a .index .now) (a .alpha) (a .beta) (a .marks .now) _ _ _ _ _ _ (c .before .before .before .before .before .before .before .lowest .ensures) (c .before .before .before .before .before .before .lowest2 .ensures) (c .before .before .before .before .before .lowest3 .ensures) (c .before .before .before .before .lowest4 .ensures) (c .before .lowest5 .ensures) (c .lowest6 .ensures)

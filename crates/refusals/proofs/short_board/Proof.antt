@@ -1,3 +1,4 @@
+-- `refusals::short_board` meets its contract: 3 of a board, part by part. Assumes nothing.
 use borrow.Author.Needs.{needs}
 use Prim.Native.Nat.{ℕ, _+_, _*_, _≤_, _<_}
 use mathlib.Core.Path.{_≡_, refl, sym, ap, _∙_}
@@ -9,39 +10,30 @@ use Rattle.refusals.proofs.short_board.Tie as tie
 use Rattle.refusals.proofs.short_board.Reads as reads
 use Rattle.refusals.proofs.short_board.Lts as lts
 
--- src/lib.rt:14:13
 cast-n : tie.Need-cast-n
 cast-n c = search needs
 
--- src/lib.rt:15:13
 cast-m : tie.Need-cast-m
 cast-m c = search needs
 
--- src/lib.rt:16:18
 mul-places : tie.Need-mul-places
 mul-places c = let a = c .before .before .args in omega (arith, product-fits (a .head .operators) (a .head .rides) (omega arith) (omega arith))
 
--- src/lib.rt:18:9
 returns : tie.Need-returns
 returns c = let a = c .before .before .before .args in let b = lent (a .head) (a .operators .now) (a .rides .now) (a .stamps .now) (a .index .now) in short-operators b (omega arith)
 
--- src/lib.rt:21:9
 returns-2 : tie.Need-returns-2
 returns-2 c = let a = c .before .before .before .before .args in let b = lent (a .head) (a .operators .now) (a .rides .now) (a .stamps .now) (a .index .now) in short-rides b (omega arith) (omega arith)
 
--- src/lib.rt:24:9
 returns-3 : tie.Need-returns-3
 returns-3 c = let a = c .before .before .before .before .before .args in let b = lent (a .head) (a .operators .now) (a .rides .now) (a .stamps .now) (a .index .now) in short-stamps b (omega arith) (omega arith) (omega arith)
 
--- src/lib.rt:26:24
 add-result : tie.Need-add-result
 add-result c = search needs
 
--- src/lib.rt:26:19
 mul-result : tie.Need-mul-result
 mul-result c = let a = c .before .before .before .before .before .args in omega (arith, product-fits (a .head .operators) (a .head .rides) (omega arith) (omega arith), product-fits (a .head .rides) (a .head .rides) (omega arith) (omega arith))
 
--- src/lib.rt:11:1
 returns-4 : tie.Need-returns-4
 returns-4 c = let a = c .before .before .before .before .before .args in let b = lent (a .head) (a .operators .now) (a .rides .now) (a .stamps .now) (a .index .now) in short-index b (omega arith) (omega arith) (omega arith)
 

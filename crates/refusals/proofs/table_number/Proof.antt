@@ -1,45 +1,39 @@
+-- `refusals::table_number` meets its contract: 1 to 5, each where those before it do not apply. Assumes nothing.
 use borrow.Author.Needs.{needs}
 use Prim.Native.Nat.{ℕ, _+_, _*_, _≤_, _<_}
 use mathlib.Core.Path.{_≡_, refl, sym, ap, _∙_}
 use native.Mathlib.Omega.{arith}
 use Rattle.model.specs.Layout.{lent}
 use Rattle.model.proofs.Refusal.{not-less}
-use Rattle.refusals.proofs.Chain.{product-small, table-0, table-1, table-2, table-3, table-4, table-5}
+use Rattle.pairs.proofs.Place.{product-small}
+use Rattle.refusals.proofs.Chain.{table-0, table-1, table-2, table-3, table-4, table-5}
 use Rattle.refusals.proofs.table_number.Statement.{statement}
 use Rattle.refusals.proofs.table_number.Tie as tie
 use Rattle.refusals.proofs.table_number.Reads as reads
 use Rattle.refusals.proofs.table_number.Lts as lts
 use Rattle.tables.proofs.ascending.Reads as ascending-reads
 
--- src/lib.rt:35:9
 returns : tie.Need-returns
 returns c = let a = c .before .before .before .before .args in table-1 (a .head) (a .short) (a .operators .now) (a .rides .now) (omega arith)
 
--- src/lib.rt:38:9
 returns-2 : tie.Need-returns-2
 returns-2 c = let a = c .before .before .before .before .before .before .args in table-2 (a .head) (a .short) (a .operators .now) (a .rides .now) (omega arith) (omega arith)
 
--- src/lib.rt:41:9
 returns-3 : tie.Need-returns-3
 returns-3 c = let a = c .before .before .before .before .before .before .before .args in table-3 (a .head) (a .short) (a .operators .now) (a .rides .now) (omega arith) (omega arith) (c .if3 .taken)
 
--- src/lib.rt:43:8
 mul-if4 : tie.Need-mul-if4
 mul-if4 c = let a = c .before .before .before .before .before .before .before .before .args in omega (arith, product-small (a .head .operators) (a .head .rides) (omega arith) (omega arith))
 
--- src/lib.rt:44:9
 returns-4 : tie.Need-returns-4
 returns-4 c = let a = c .before .before .before .before .before .before .before .before .before .before .args in table-4 (a .head) (a .short) (a .operators .now) (a .rides .now) (omega arith) (omega arith) (c .before .before .before .if3 .left) (omega arith)
 
--- src/lib.rt:46:8
 ascending-requires : tie.Need-ascending-requires
 ascending-requires c κs = let s = c .before .before .before .before .before .before .before .before .before .before in let p = s .pre (c .before .before .before .if3 .left) in (omega (arith, p .0), omega (arith, p .1))
 
--- src/lib.rt:47:9
 returns-5 : tie.Need-returns-5
 returns-5 c = let a = c .before .before .before .before .before .before .before .before .before .before .before .before .args in table-0 (a .head) (a .short) (a .operators .now) (a .rides .now) (omega arith) (omega arith) (c .before .before .before .before .before .if3 .left) (omega arith) (sym (c .before .ascending .ensures) ∙ c .if5 .taken)
 
--- src/lib.rt:30:1
 returns-6 : tie.Need-returns-6
 returns-6 c = let a = c .before .before .before .before .before .before .before .before .before .before .before .before .args in table-5 (a .head) (a .short) (a .operators .now) (a .rides .now) (omega arith) (omega arith) (c .before .before .before .before .before .if3 .left) (omega arith) (sym (c .before .ascending .ensures) ∙ c .if5 .left)
 

@@ -1,3 +1,4 @@
+-- `tables::ascending` meets its contract. The loop's invariant: none of the first i pairs is misplaced. Assumes nothing.
 use borrow.Author.Needs.{needs}
 use borrow.Author.Count.{below-more, below-none}
 use mathlib.Core.Path.{_≡_, refl, sym, _∙_}
@@ -18,35 +19,27 @@ Inv-loop head operators rides pairs i₀ i = (pairs ≡ head .pairs) × (i ≤ p
 abbrev μ-loop : tie.MeasureT-loop
 μ-loop head operators rides pairs i₀ i = pairs - i
 
--- src/lib.rt:46:17
 cast-pairs : tie.Need-cast-pairs Inv-loop μ-loop
 cast-pairs c = search needs
 
--- src/lib.rt:48:5
 loop-holds : tie.Need-loop-holds Inv-loop μ-loop
 loop-holds c = (refl, omega arith, λ k l. absurd (let z : ⊥ = omega arith in z))
 
--- src/lib.rt:49:12
 misplaced-requires : tie.Need-misplaced-requires Inv-loop μ-loop
 misplaced-requires c κs = search needs
 
--- src/lib.rt:50:13
 returns : tie.Need-returns Inv-loop μ-loop
 returns c = one-misplaced _ _ _ (c .before .before .before .loop .i) (omega arith) (sym (c .before .misplaced .ensures) ∙ c .if1 .taken)
 
--- src/lib.rt:52:9
 add-i : tie.Need-add-i Inv-loop μ-loop
 add-i c = search needs
 
--- src/lib.rt:48:5
 loop-less : tie.Need-loop-less Inv-loop μ-loop
 loop-less c = search needs
 
--- src/lib.rt:48:5
 loop-again : tie.Need-loop-again Inv-loop μ-loop
 loop-again c = (refl, omega arith, below-more _ _ (c .before .before .before .loop .inv .2) (sym (c .before .misplaced .ensures) ∙ c .if1 .left))
 
--- src/lib.rt:42:1
 returns-2 : tie.Need-returns-2 Inv-loop μ-loop
 returns-2 c = none-misplaced _ _ _ (λ k l. c .before .loop .inv .2 k (omega arith))
 

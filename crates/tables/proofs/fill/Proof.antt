@@ -1,3 +1,4 @@
+-- `tables::fill` meets its contract. The loop's invariant: the table holds the first k pairs. Assumes nothing.
 use borrow.Author.Needs.{needs}
 use mathlib.Core.Path.{_≡_, refl, sym, ap, _∙_}
 use Prim.Native.Nat.{ℕ, _+_, _*_, _≤_, _<_, _-_}
@@ -18,35 +19,27 @@ Inv-loop rows columns pairs width height table₀ k₀ table k =
 abbrev μ-loop : tie.MeasureT-loop
 μ-loop rows columns pairs width height table₀ k₀ table k = pairs - k
 
--- src/lib.rt:64:5
 loop-holds : tie.Need-loop-holds Inv-loop μ-loop
 loop-holds c = (omega arith, refl, λ i j h l. c .pre .1 (i * c .args .width + j) ∙ sym (ap bit (listed-none (c .args .rows .now) (c .args .columns .now) i j)))
 
--- src/lib.rt:65:17
 mul-i : tie.Need-mul-i Inv-loop μ-loop
 mul-i c = search needs
 
--- src/lib.rt:65:17
 shared-slice-read-i : tie.Need-shared-slice-read-i Inv-loop μ-loop
 shared-slice-read-i c = search needs
 
--- src/lib.rt:65:17
 cast-i : tie.Need-cast-i Inv-loop μ-loop
 cast-i c = omega (arith, c .shared-slice-known .given (c .before .before .loop .k))
 
--- src/lib.rt:66:17
 mul-j : tie.Need-mul-j Inv-loop μ-loop
 mul-j c = search needs
 
--- src/lib.rt:66:17
 shared-slice-read-j : tie.Need-shared-slice-read-j Inv-loop μ-loop
 shared-slice-read-j c = search needs
 
--- src/lib.rt:66:17
 cast-j : tie.Need-cast-j Inv-loop μ-loop
 cast-j c = omega (arith, c .shared-slice-known2 .given (c .before .before .before .loop .k))
 
--- src/lib.rt:67:15
 mul-table : tie.Need-mul-table Inv-loop μ-loop
 mul-table c =
     let l = c .before .before .before .loop in
@@ -55,7 +48,6 @@ mul-table c =
     let r = s .pre .0 .3 (l .k) (omega arith) in
     omega (arith, place-lt (a .height) (a .width) (getD (a .rows .now) (l .k) 0) (getD (a .columns .now) (l .k) 0) (r .0) (r .1) (length (l .table)) (omega arith))
 
--- src/lib.rt:67:15
 add-table : tie.Need-add-table Inv-loop μ-loop
 add-table c =
     let l = c .before .before .before .loop in
@@ -64,7 +56,6 @@ add-table c =
     let r = s .pre .0 .3 (l .k) (omega arith) in
     omega (arith, place-lt (a .height) (a .width) (getD (a .rows .now) (l .k) 0) (getD (a .columns .now) (l .k) 0) (r .0) (r .1) (length (l .table)) (omega arith))
 
--- src/lib.rt:67:9
 slice-write-table : tie.Need-slice-write-table Inv-loop μ-loop
 slice-write-table c =
     let l = c .before .before .before .loop in
@@ -73,15 +64,12 @@ slice-write-table c =
     let r = s .pre .0 .3 (l .k) (omega arith) in
     place-lt (a .height) (a .width) (getD (a .rows .now) (l .k) 0) (getD (a .columns .now) (l .k) 0) (r .0) (r .1) (length (l .table)) (omega arith)
 
--- src/lib.rt:68:9
 add-k : tie.Need-add-k Inv-loop μ-loop
 add-k c = search needs
 
--- src/lib.rt:64:5
 loop-less : tie.Need-loop-less Inv-loop μ-loop
 loop-less c = search needs
 
--- src/lib.rt:64:5
 loop-again : tie.Need-loop-again Inv-loop μ-loop
 loop-again c =
     let l = c .before .before .before .loop in
@@ -90,11 +78,9 @@ loop-again c =
     let r = s .pre .0 .3 (l .k) (omega arith) in
     (omega arith, simp length-set (omega arith), table-more bit (a .rows .now) (a .columns .now) (a .height) (a .width) (l .k) (l .table) (omega arith) (r .0) (r .1) (l .inv .2))
 
--- src/lib.rt:58:1
 same-length : tie.Need-same-length Inv-loop μ-loop
 same-length c = search needs
 
--- src/lib.rt:58:1
 returns : tie.Need-returns Inv-loop μ-loop
 returns c = let e : c .before .loop .k ≡ c .before .before .args .pairs = omega arith in rw (← e) (c .before .loop .inv .2)
 

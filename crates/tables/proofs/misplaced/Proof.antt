@@ -1,3 +1,4 @@
+-- `tables::misplaced` meets its contract: out of range, or not after the pair before it. Assumes nothing.
 use borrow.Author.Needs.{needs}
 use native.Mathlib.Omega.{arith}
 use Rattle.tables.proofs.Order.{high-operator, high-ride, first-place, next-operator, same-operator, lower-operator}
@@ -6,67 +7,51 @@ use Rattle.tables.proofs.misplaced.Tie as tie
 use Rattle.tables.proofs.misplaced.Reads as reads
 use Rattle.tables.proofs.misplaced.Lts as lts
 
--- src/lib.rt:19:13
 mul-u : tie.Need-mul-u
 mul-u c = search needs
 
--- src/lib.rt:19:13
 shared-slice-read-u : tie.Need-shared-slice-read-u
 shared-slice-read-u c = search needs
 
--- src/lib.rt:20:13
 mul-v : tie.Need-mul-v
 mul-v c = search needs
 
--- src/lib.rt:20:13
 shared-slice-read-v : tie.Need-shared-slice-read-v
 shared-slice-read-v c = search needs
 
--- src/lib.rt:22:9
 returns : tie.Need-returns
 returns c = high-operator _ _ _ _ (omega arith)
 
--- src/lib.rt:25:9
 returns-2 : tie.Need-returns-2
 returns-2 c = high-ride _ _ _ _ (omega arith) (omega arith)
 
--- src/lib.rt:28:9
 returns-3 : tie.Need-returns-3
 returns-3 c = first-place _ _ _ _ (omega arith) (omega arith) (omega arith)
 
--- src/lib.rt:30:24
 sub-u0 : tie.Need-sub-u0
 sub-u0 c = search needs
 
--- src/lib.rt:30:14
 mul-u0 : tie.Need-mul-u0
 mul-u0 c = search needs
 
--- src/lib.rt:30:14
 shared-slice-read-u0 : tie.Need-shared-slice-read-u0
 shared-slice-read-u0 c = search needs
 
--- src/lib.rt:31:20
 sub-v0 : tie.Need-sub-v0
 sub-v0 c = search needs
 
--- src/lib.rt:31:14
 mul-v0 : tie.Need-mul-v0
 mul-v0 c = search needs
 
--- src/lib.rt:31:14
 shared-slice-read-v0 : tie.Need-shared-slice-read-v0
 shared-slice-read-v0 c = search needs
 
--- src/lib.rt:33:9
 returns-4 : tie.Need-returns-4
 returns-4 c = next-operator _ _ _ _ (omega arith) (omega arith) (omega arith) (omega arith)
 
--- src/lib.rt:36:9
 returns-5 : tie.Need-returns-5
 returns-5 c = same-operator _ _ _ _ (omega arith) (omega arith) (omega arith) (omega arith)
 
--- src/lib.rt:15:1
 returns-6 : tie.Need-returns-6
 returns-6 c = lower-operator _ _ _ _ (omega arith) (omega arith) (omega arith) (omega arith)
 

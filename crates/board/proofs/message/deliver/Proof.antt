@@ -1,3 +1,4 @@
+-- `deliver` meets its contract: the message is refused, or taken. Assumes nothing.
 use borrow.Author.Needs.{needs}
 use mathlib.Core.Path.{_≡_, refl, sym, _∙_}
 use native.Mathlib.Omega.{arith}
@@ -10,54 +11,42 @@ use Rattle.board.proofs.message.deliver.Lts as lts
 use Rattle.board.proofs.message.take_message.Reads as take-message-reads
 use Rattle.refusals.proofs.message_number.Reads as message-number-reads
 
--- src/message.rt:66:9
 message-number-requires : tie.Need-message-number-requires
 message-number-requires c κs = search needs
 
--- src/message.rt:68:9
 same-length : tie.Need-same-length
 same-length c = search needs
 
--- src/message.rt:68:9
 same-length-2 : tie.Need-same-length-2
 same-length-2 c = search needs
 
--- src/message.rt:68:9
 same-length-3 : tie.Need-same-length-3
 same-length-3 c = search needs
 
--- src/message.rt:68:9
 same-length-4 : tie.Need-same-length-4
 same-length-4 c = search needs
 
--- src/message.rt:68:9
 returns : tie.Need-returns
 returns c = let s = c .before .before .before .before .before .before .before .before .before .before in
     let a = s .args in
     let b = lent (a .head) (a .operators .now) (a .rides .now) (a .stamps .now) (a .index .now) in
     deliver-refused b (a .message) _ (c .before .message-number .ensures) (omega arith)
 
--- src/message.rt:74:5
 take-message-requires : tie.Need-take-message-requires
 take-message-requires c κs = let q = c .before .before .before .before .before .message-number in sym (q .ensures) ∙ (let z : q .result ≡ 0 = omega (arith, c .before .before .before .before .if1 .left) in z)
 
--- src/message.rt:56:1
 same-length-5 : tie.Need-same-length-5
 same-length-5 c = search needs
 
--- src/message.rt:56:1
 same-length-6 : tie.Need-same-length-6
 same-length-6 c = search needs
 
--- src/message.rt:56:1
 same-length-7 : tie.Need-same-length-7
 same-length-7 c = search needs
 
--- src/message.rt:56:1
 same-length-8 : tie.Need-same-length-8
 same-length-8 c = search needs
 
--- src/message.rt:56:1
 returns-2 : tie.Need-returns-2
 returns-2 c = c .before .before .before .before .before .before .before .before .take-message .ensures
 

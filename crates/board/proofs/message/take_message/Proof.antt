@@ -1,3 +1,4 @@
+-- `take_message` meets its contract: the pairs after the message, its stamp, and the index of the new pairs. Assumes nothing.
 use borrow.Author.Needs.{needs}
 use mathlib.Core.Path.{_≡_, refl, sym, ap, _∙_, subst}
 use native.Mathlib.Omega.{arith}
@@ -10,7 +11,6 @@ use Rattle.board.proofs.message.take_message.Lts as lts
 use Rattle.levels.proofs.fill_index.Reads as fill-index-reads
 use Rattle.pairs.proofs.change.Reads as change-reads
 
--- src/message.rt:32:9
 change-requires : tie.Need-change-requires
 change-requires c κs = let s = c .before .before .before .before .before .before .before in
     let a = s .args in
@@ -19,47 +19,39 @@ change-requires c κs = let s = c .before .before .before .before .before .befor
     let l = take-long b (a .message) (s .pre) in
     (take-pairs b (a .message) (s .pre), v .operator, v .ride, l .0, l .1)
 
--- src/message.rt:40:14
 cast-at : tie.Need-cast-at
 cast-at c = search needs
 
--- src/message.rt:40:42
 cast-at-2 : tie.Need-cast-at-2
 cast-at-2 c = search needs
 
--- src/message.rt:40:14
 mul-at : tie.Need-mul-at
 mul-at c = let s = c .before .before .before .before .before .before .before .before .before .before .before .before .before .before in
     let a = s .args in
     let b = lent (a .head) (a .operators .now) (a .rides .now) (a .stamps .now) (a .index .now) in
     omega (arith, take-stamp b (a .message) (s .pre))
 
--- src/message.rt:40:64
 cast-at-3 : tie.Need-cast-at-3
 cast-at-3 c = search needs
 
--- src/message.rt:40:14
 add-at : tie.Need-add-at
 add-at c = let s = c .before .before .before .before .before .before .before .before .before .before .before .before .before .before .before in
     let a = s .args in
     let b = lent (a .head) (a .operators .now) (a .rides .now) (a .stamps .now) (a .index .now) in
     omega (arith, take-stamp b (a .message) (s .pre))
 
--- src/message.rt:41:5
 mul-stamps : tie.Need-mul-stamps
 mul-stamps c = let s = c .before .before .before .before .before .before .before .before .before .before .before .before .before .before .before in
     let a = s .args in
     let b = lent (a .head) (a .operators .now) (a .rides .now) (a .stamps .now) (a .index .now) in
     omega (arith, take-stamp b (a .message) (s .pre))
 
--- src/message.rt:41:5
 slice-write-stamps : tie.Need-slice-write-stamps
 slice-write-stamps c = let s = c .before .before .before .before .before .before .before .before .before .before .before .before .before .before .before in
     let a = s .args in
     let b = lent (a .head) (a .operators .now) (a .rides .now) (a .stamps .now) (a .index .now) in
     take-stamp b (a .message) (s .pre)
 
--- src/message.rt:47:9
 fill-index-requires : tie.Need-fill-index-requires
 fill-index-requires c κs = let s = c .before .before .before .before .before .before .before .before .before .before .before .before .before .before .before .before .before .before in
     let a = s .args in
@@ -67,23 +59,18 @@ fill-index-requires c κs = let s = c .before .before .before .before .before .b
     let v = c .before .before .before .before .before .before .before .before .before .before .change in
     (next-pairs b (a .message) (s .pre) (v .result) (v .last .1 .1 .1 .1 .0) (v .last .1 .1 .1 .1 .1 .0) (omega arith) (omega arith) (v .ensures), take-long b (a .message) (s .pre) .2)
 
--- src/message.rt:21:1
 same-length : tie.Need-same-length
 same-length c = search needs
 
--- src/message.rt:21:1
 same-length-2 : tie.Need-same-length-2
 same-length-2 c = search needs
 
--- src/message.rt:21:1
 same-length-3 : tie.Need-same-length-3
 same-length-3 c = search needs
 
--- src/message.rt:21:1
 same-length-4 : tie.Need-same-length-4
 same-length-4 c = search needs
 
--- src/message.rt:21:1
 returns : tie.Need-returns
 returns c = let s = c .before .before .before .before .before .before .before .before .before .before .before .before .before .before .before .before .before .before .before .before .before in
     let a = s .args in
