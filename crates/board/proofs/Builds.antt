@@ -1,18 +1,16 @@
 -- A build: what the numbers that don't apply say, the stamps, and the whole outcome. Assumes nothing.
-use mathlib.Core.Path.{_≡_, refl, sym, ap, ap₂, _∙_, subst}
+use mathlib.Core.Path.{_≡_, refl, sym, ap, ap₂, _∙_}
 use mathlib.Core.Logic.{_≢_}
 use mathlib.Core.Bool.{Bool, true, false}
 use mathlib.Core.List.{List, _++_}
-use Prim.Native.Nat.{ℕ, zero, suc, _+_, _*_, _≤_, _<_}
+use Prim.Native.Nat.{ℕ, zero, suc, _+_, _*_, _≤_}
 use native.Mathlib.Omega.{arith}
-use lib.Dec.{T}
 use lib.Arith.{digits-lt}
-use lib.ListN.{length, getD, take, drop, take-append-drop}
+use lib.ListN.{length, take, drop, take-append-drop}
 use lib.Seq.{getD-take, length-take-le}
-use Rattle.model.specs.declared.Head.{Head}
 use Rattle.model.specs.Count.{rows}
 use Rattle.model.specs.Graph.{Graph, index-of}
-use Rattle.model.specs.Layout.{Board, lent, pair-places, index-places, over, listed, graph, zero-tail}
+use Rattle.model.specs.Layout.{Board, lent, pair-places, over, listed, graph, zero-tail}
 use Rattle.model.specs.Refusal.{build-refusal}
 use Rattle.model.specs.Calls.{start-stamps, built, board-build}
 use Rattle.model.proofs.Count.{length-rows}

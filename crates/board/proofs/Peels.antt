@@ -1,24 +1,23 @@
 -- A peel: what it starts from, and the whole outcome. Assumes nothing.
-use mathlib.Core.Path.{_≡_, refl, sym, ap, ap₂, _∙_, subst}
+use mathlib.Core.Path.{_≡_, refl, sym, ap, ap₂, _∙_}
 use mathlib.Core.Logic.{_≢_}
-use mathlib.Core.Bool.{Bool}
-use mathlib.Core.List.{List, [], _∷_, _++_}
+use mathlib.Core.List.{List}
 use Prim.Native.Nat.{ℕ, zero, suc, _+_, _*_, _≤_, _<_}
 use native.Mathlib.Omega.{arith}
 use lib.Dec.{T, ltb}
 use lib.ListN.{length, getD}
 use Rattle.model.specs.declared.Head.{Head}
 use Rattle.model.specs.declared.Peeled.{Peeled}
-use Rattle.model.specs.Count.{bit, some}
-use Rattle.model.specs.Graph.{Graph, limits}
+use Rattle.model.specs.Count.{bit}
+use Rattle.model.specs.Graph.{limits}
 use Rattle.model.specs.Layout.{pair-places, mark-places, listed, graph}
-use Rattle.model.specs.Refusal.{refused-1, refused-2, refused-4, refused-5, refused-11, refused-12, lowest-number, peel-refusal}
-use Rattle.model.specs.Calls.{PeelOutcome, peeled, board-peel}
+use Rattle.model.specs.Refusal.{refused-1, refused-2, refused-4, refused-5, refused-11, refused-12, peel-refusal}
+use Rattle.model.specs.Calls.{peeled, board-peel}
 use Rattle.model.proofs.Count.{some-holds}
 use Rattle.model.proofs.Refusal.{lowest-none, enough}
 use Rattle.tables.specs.Table.{AcceptedPairs}
 use Rattle.levels.proofs.Filled.{listed-swap}
-use Rattle.peeling.specs.Steps.{Tables, Ready, Gives}
+use Rattle.peeling.specs.Steps.{Ready, Gives}
 use Rattle.refusals.proofs.Chain.{short-parts, peel-long}
 use Rattle.board.specs.Words.{peel-left}
 

@@ -9,17 +9,16 @@ use native.Mathlib.Decide.{decLt}
 use lib.Dec.{T, leb, eqb}
 use borrow.Author.Tests.{eq-eqb, le-leb, lt-leb}
 use lib.ListN.{length, getD, take, drop, length-take, length-drop, length-append, List·getD-append}
-use lib.Seq.{getD-take, getD-drop, drop-at, drop-drop, length-take-le}
-use borrow.Rule.Slice.PartMut.{same-len-mid, drop-put}
+use lib.Seq.{getD-take, getD-drop, drop-at}
 use Rattle.model.specs.declared.Head.{Head}
 use Rattle.model.specs.declared.Counts.{Counts}
-use Rattle.model.specs.Count.{bit, count, values}
+use Rattle.model.specs.Count.{bit, count}
 use Rattle.model.specs.Graph.{marked}
 use Rattle.model.specs.Layout.{mark-places, index-places, over}
 use Rattle.model.specs.Refusal.{refused-1, refused-2, refused-3, refused-11, query-refusal}
-use Rattle.model.specs.Calls.{QueryOutcome, query-marks, counts, board-query}
+use Rattle.model.specs.Calls.{query-marks, counts, board-query}
 use Rattle.model.proofs.Count.{or-left, or-right, bit-le, bit-test, count-append, count-ext, count-zero, length-values, getD-values}
-use Rattle.model.proofs.Store.{part-length, part-at, put-before, put-at, front-at, front-after, over-is}
+use Rattle.model.proofs.Store.{part-length, part-at, over-is}
 use Rattle.model.proofs.Refusal.{lowest-none, enough}
 use Rattle.model.proofs.Query.{query-marked}
 use Rattle.levels.proofs.Side.{row-inside}

@@ -1,18 +1,17 @@
 -- A taken message: the pair arrays, the stamp and the index that it leaves are the board's after it. Assumes nothing.
-use mathlib.Core.Path.{_≡_, refl, sym, ap, _∙_, subst, subst₃}
+use mathlib.Core.Path.{_≡_, refl, sym, ap, _∙_, subst₃}
 use mathlib.Core.Logic.{_≢_}
-use mathlib.Core.Bool.{Bool, not}
-use mathlib.Core.List.{List, _++_}
-use Prim.Native.Nat.{ℕ, zero, suc, _+_, _*_, _≤_, _<_}
+use mathlib.Core.Bool.{not}
+use mathlib.Core.List.{List}
+use Prim.Native.Nat.{ℕ, zero, suc, _*_, _≤_, _<_}
 use native.Mathlib.Omega.{arith}
-use lib.Dec.{T, eqb}
+use lib.Dec.{eqb}
 use lib.Arith.{digits-lt}
 use lib.ListN.{length, getD, set, drop, List·getD-append}
 use Rattle.model.specs.declared.Head.{Head}
 use Rattle.model.specs.declared.Message.{Message}
-use Rattle.model.specs.Count.{count}
 use Rattle.model.specs.Graph.{Graph, nodes, level, index-of}
-use Rattle.model.specs.Layout.{Board, lent, pair-places, index-places, over, graph, differing}
+use Rattle.model.specs.Layout.{Board, pair-places, index-places, over, graph, differing}
 use Rattle.model.specs.Refusal.{stamp-place, message-refusal}
 use Rattle.model.specs.Message.{cleared-on, graph-after, board-of, board-after, board-message}
 use Rattle.model.proofs.Count.{count-ext, length-rows}
@@ -22,7 +21,6 @@ use Rattle.model.proofs.Refusal.{Accepted, Valid, taken-none}
 use Rattle.model.proofs.Taken.{message-taken, message-refused, pairs-after}
 use Rattle.tables.specs.Table.{AcceptedPairs}
 use Rattle.pairs.specs.Change.{Changed}
-use Rattle.board.specs.declared.message.Delivered.{Delivered}
 use Rattle.board.specs.Message.{with-pairs, delivered}
 
 -- a message that is refused

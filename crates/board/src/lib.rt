@@ -9,7 +9,7 @@ ghost use Rattle.model.specs.Layout.{lent, listed, graph, mark-places};
 ghost use Rattle.model.specs.Calls.{board-build, board-query, peeled, board-peel};
 ghost use Rattle.tables.specs.Table.{InRange, AcceptedPairs};
 ghost use Rattle.peeling.specs.Steps.{Gives};
-ghost use Rattle.board.specs.Words.{Marked, RowMarked, Stamped, stamp-of, queried, peel-left, build-left};
+ghost use Rattle.board.specs.Words.{Marked, RowMarked, Stamped, queried, peel-left, build-left};
 
 pub mod message; // message.rt: message and message list
 

@@ -1,19 +1,18 @@
 -- The tables that are filled from a pair table hold its clearances. Assumes nothing.
-use mathlib.Core.Path.{_≡_, refl, sym, ap, _∙_, subst}
-use mathlib.Core.Bool.{Bool}
+use mathlib.Core.Path.{_≡_, sym, ap, _∙_}
 use mathlib.Core.List.{List}
-use Prim.Native.Nat.{ℕ, _+_, _*_, _≤_, _<_}
+use Prim.Native.Nat.{ℕ, _+_, _*_, _<_}
 use native.Mathlib.Omega.{arith}
-use lib.Dec.{T, eqb}
+use lib.Dec.{eqb}
 use lib.ListN.{length, getD}
 use Rattle.model.specs.declared.Head.{Head}
-use Rattle.model.specs.Count.{bit, values}
-use Rattle.model.specs.Graph.{Graph, nodes, level, row, index-of}
+use Rattle.model.specs.Count.{bit}
+use Rattle.model.specs.Graph.{level, row, index-of}
 use Rattle.model.specs.Layout.{listed, graph}
 use Rattle.model.proofs.Count.{bit-test, test-ext, values-ext}
 use Rattle.model.proofs.Level.{level-same, index-same}
 use Rattle.model.proofs.Pairs.{table-pairs, listed-place, place-listed}
-use Rattle.tables.specs.Table.{Table, InRange, AcceptedPairs}
+use Rattle.tables.specs.Table.{InRange, AcceptedPairs}
 use Rattle.levels.specs.Row.{joined, table-graph, Tables}
 
 -- the pair (u, v) is listed whichever array comes first

@@ -6,7 +6,7 @@ use mathlib.Core.List.{List, _++_}
 use Prim.Native.Nat.{ℕ, _+_, _-_, _*_, _≤_, _<_}
 use native.Mathlib.Omega.{arith}
 use native.Mathlib.Decide.{decLt, decLe}
-use lib.Dec.{T, ltb, leb, eqb, ltb→lt, lt→ltb, leb→le, le→leb, eqb→eq}
+use lib.Dec.{T, ltb, leb, eqb, lt→ltb, leb→le, le→leb, eqb→eq}
 use borrow.Author.Tests.{lt-ltb, le-ltb, le-leb, lt-leb}
 use lib.ListN.{length, getD, take, drop, length-take}
 use lib.Seq.{getD-take, ext-getD}
@@ -16,9 +16,8 @@ use Rattle.model.specs.Graph.{Graph, nodes, degree, everybody, Inside, Meets, l
 use Rattle.model.proofs.Count.{bit-test, by-test, test-true, test-false, test-ext, and-left, and-right, and-both, count-le, count-ext, count-pos, count-witness, count-add, length-values, getD-values}
 use Rattle.model.proofs.Peel.{degree-operator, degree-ride, degree-mono}
 use Rattle.model.proofs.Cover.{limits-operator, limits-ride, cover-core, cover-holds, cover-laws}
-use Rattle.model.proofs.Level.{level-holds, level-largest, level-in}
+use Rattle.model.proofs.Level.{level-largest, level-in}
 use Rattle.model.proofs.Store.{part-length, part-at, put-before, put-at, front-at, front-after}
-use Rattle.tables.specs.Table.{Table}
 use Rattle.levels.specs.Row.{joined, falls, Side, Swept, table-graph, kept-set, Work, work, Fits, Raising, Settled, Rounded, Lower, Least, Start}
 
 -- ---- the set of the nodes kept

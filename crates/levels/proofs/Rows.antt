@@ -1,15 +1,15 @@
 -- From tables and degrees to rows, and from rows to the index. Assumes nothing.
-use mathlib.Core.Path.{_≡_, refl, sym, ap, ap₂, _∙_, subst, subst₂}
-use mathlib.Core.Bool.{Bool, true, _&&_, and-true}
-use mathlib.Core.List.{List, _++_}
-use Prim.Native.Nat.{ℕ, suc, _+_, _-_, _*_, _≤_, _<_}
+use mathlib.Core.Path.{_≡_, sym, ap, ap₂, _∙_, subst, subst₂}
+use mathlib.Core.Bool.{true, _&&_, and-true}
+use mathlib.Core.List.{List}
+use Prim.Native.Nat.{ℕ, suc, _+_, _-_, _≤_, _<_}
 use native.Mathlib.Numerals.{add-one}
 use native.Mathlib.Omega.{arith}
 use lib.Dec.{T, eqb}
-use lib.ListN.{length, getD, take, drop, length-take, List·getD-append}
+use lib.ListN.{length, getD, take, length-take}
 use lib.Seq.{getD-take, ext-getD}
 use Rattle.model.specs.Count.{bit, count, values}
-use Rattle.model.specs.Graph.{Graph, nodes, degree, everybody, marked, level, row}
+use Rattle.model.specs.Graph.{Graph, nodes, degree, everybody, level, row}
 use Rattle.model.proofs.Count.{bit-test, count-ext, length-values, getD-values}
 use Rattle.model.proofs.Peel.{degree-operator, degree-ride}
 use Rattle.model.proofs.Level.{level-laws}

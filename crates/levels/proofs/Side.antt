@@ -9,14 +9,13 @@ use native.Mathlib.Nat.{suc-mul, mul-le-mul-right}
 use native.Mathlib.Decide.{decLt}
 use lib.Dec.{T, ltb, leb, eqb, ltb→lt, lt→ltb, leb→le, le→leb}
 use borrow.Author.Count.{below-more}
-use borrow.Author.Tests.{lt-ltb, le-ltb, le-leb, lt-leb, eq-eqb, ne-eqb}
-use lib.ListN.{length, getD, set, length-set}
+use borrow.Author.Tests.{lt-ltb, eq-eqb, ne-eqb}
+use lib.ListN.{length, getD, set}
 use lib.Seq.{getD-set-same, getD-set-other}
 use Rattle.model.specs.Count.{bit, count}
 use Rattle.model.specs.Graph.{marked}
-use Rattle.model.proofs.Count.{by-test, test-true, test-false, test-ext, and-left, and-right, and-both, count-mono, count-ext, count-but-one, count-less, count-more, count-pos}
+use Rattle.model.proofs.Count.{by-test, test-true, test-false, test-ext, and-left, and-right, and-both, count-mono, count-but-one, count-less, count-more, count-pos}
 use Rattle.model.proofs.Peel.{marked-cleared, marked-other, marked-less, marked-stays}
-use Rattle.tables.specs.Table.{Table}
 use Rattle.levels.specs.Row.{joined, falls, Side, Visited, Swept}
 
 -- row i of a table lies inside it, as far as it is used

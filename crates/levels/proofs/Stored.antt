@@ -1,18 +1,18 @@
 -- Rows stored one after the other make up the index, and their differing words add up. Assumes nothing.
-use mathlib.Core.Path.{_≡_, refl, sym, ap, ap₂, _∙_, subst}
-use mathlib.Core.Bool.{Bool, not}
-use mathlib.Core.List.{List, [], _∷_, _++_, append-assoc}
+use mathlib.Core.Path.{_≡_, sym, ap, ap₂, _∙_}
+use mathlib.Core.Bool.{not}
+use mathlib.Core.List.{List, _++_, append-assoc}
 use Prim.Native.Nat.{ℕ, suc, _+_, _-_, _*_, _≤_, _<_}
 use native.Mathlib.Omega.{arith}
 use native.Mathlib.Numerals.{add-one}
-use native.Mathlib.Nat.{suc-mul, mul-le-mul-right}
+use native.Mathlib.Nat.{mul-le-mul-right}
 use lib.Dec.{eqb}
-use lib.ListN.{length, getD, take, drop}
+use lib.ListN.{getD, take, drop}
 use lib.Seq.{take-at, drop-at, drop-drop, getD-drop, getD-take}
-use Rattle.model.specs.Count.{bit, count, values, rows}
+use Rattle.model.specs.Count.{count, values, rows}
 use Rattle.model.specs.Graph.{Graph, nodes, level, index-of}
 use Rattle.model.specs.Layout.{over, differing}
-use Rattle.model.proofs.Count.{count-ext, length-values, getD-values, length-rows, getD-rows}
+use Rattle.model.proofs.Count.{count-ext, getD-values, length-rows, getD-rows}
 use Rattle.model.proofs.Differ.{differing-append}
 
 module _ (w m : ℕ) (f : ℕ → ℕ → ℕ) (index₀ : List ℕ) (a : ℕ) (h : a < m) (index : List ℕ) (upto : index ≡ rows a w f ++ drop (a * w) index₀) where

@@ -1,15 +1,14 @@
 // The levels of the index, row by row, from the dense tables of clearances.
 ghost use mathlib.Core.Path.{_≡_};
-ghost use mathlib.Core.List.{List};
 ghost use Prim.Native.Nat.{ℕ, _+_, _-_, _*_, _<_, _≤_};
-ghost use lib.ListN.{length, getD, set};
+ghost use lib.ListN.{length, getD};
 ghost use mathlib.Core.Bool.{not};
 ghost use lib.Dec.{eqb};
 ghost use Rattle.model.specs.Count.{bit, count};
 ghost use Rattle.model.specs.Graph.{row as levels-row, index-of};
 ghost use Rattle.model.specs.Layout.{over, graph, mark-places, index-places, differing};
 ghost use Rattle.tables.specs.Table.{Table, AcceptedPairs};
-ghost use Rattle.levels.specs.Row.{Side, Visited, Swept, Work, work, table-graph, Fits, Raising, Settled, Rounded, Lower, Least, Start, Everybody, Tables, joined};
+ghost use Rattle.levels.specs.Row.{Side, Visited, Swept, work, table-graph, Fits, Raising, Settled, Rounded, Lower, Least, Start, Everybody, Tables, joined};
 use model::Head;
 
 // Removes node i of a side where it is kept and falls short of the limit.

@@ -3,18 +3,17 @@
 -- other than u keep all their rides, and each ride loses one operator at the most, u itself. In rows above u's degree u is in no cover at all.
 use mathlib.Core.Path.{_≡_, sym, ap₂, _∙_, subst}
 use mathlib.Core.Logic.{_≢_}
-use mathlib.Core.Bool.{Bool, true, false, _&&_, not}
-use Prim.Native.Nat.{ℕ, zero, suc, _+_, _-_, _≤_, _<_, max}
+use mathlib.Core.Bool.{Bool, _&&_, not}
+use Prim.Native.Nat.{ℕ, _+_, _-_, _≤_, _<_, max}
 use native.Mathlib.Omega.{arith}
-use native.Mathlib.Decide.{decLt, decLe, ℕ-discrete}
+use native.Mathlib.Decide.{decLt, decLe}
 use lib.Dec.{T, eqb, eqb→eq, eqb-refl, T-not, not-T}
-use Rattle.model.specs.Count.{count}
 use Rattle.model.specs.Graph.{Graph, nodes, degree, everybody, Inside, Meets, limits, marked, cover, level}
-use Rattle.model.specs.Demand.{changed, Added, OneMove, OnePair}
+use Rattle.model.specs.Demand.{changed, Added, OnePair}
 use Rattle.model.proofs.Count.{and-left, and-right, and-both, count-mono, count-but-one}
 use Rattle.model.proofs.Peel.{degree-operator, degree-ride, degree-mono}
 use Rattle.model.proofs.Cover.{limits-operator, limits-ride, cover-core, cover-holds}
-use Rattle.model.proofs.Level.{level-bound, level-holds, level-largest, level-more}
+use Rattle.model.proofs.Level.{level-holds, level-largest, level-more}
 
 -- a set without one node
 abbrev but : (ℕ → Bool) → ℕ → ℕ → Bool

@@ -1,5 +1,5 @@
 -- Cover (α, β) is the (α, β)-core of Definition 2.1, and covers nest. Assumes nothing.
-use mathlib.Core.Path.{_≡_, sym, subst}
+use mathlib.Core.Path.{_≡_}
 use mathlib.Core.Bool.{Bool, _&&_}
 use mathlib.Core.List.{List}
 use Prim.Native.Nat.{ℕ, _+_, _-_, _≤_, _<_}
@@ -8,9 +8,8 @@ use native.Mathlib.Decide.{decLt}
 use lib.Dec.{T}
 use borrow.Author.Tests.{lt-ltb, le-ltb}
 use lib.ListN.{replicate}
-use Rattle.model.specs.Count.{count}
-use Rattle.model.specs.Graph.{Graph, nodes, degree, everybody, Inside, Meets, Largest, limits, Core, marked, peel, cover}
-use Rattle.model.specs.Demand.{PeelLaws, CoverLaws}
+use Rattle.model.specs.Graph.{Graph, nodes, degree, Inside, Meets, limits, Core, marked, cover}
+use Rattle.model.specs.Demand.{CoverLaws}
 use Rattle.model.proofs.Count.{and-right, count-le, count-witness}
 use Rattle.model.proofs.Peel.{degree-operator, degree-ride, all-marked, peel-laws}
 

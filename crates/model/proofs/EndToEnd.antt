@@ -1,16 +1,16 @@
 -- Demand 2 from end to end: the index that a build leaves, queried, gives the (α, β)-core of Definition 2.1. Assumes nothing.
 use mathlib.Core.Path.{_≡_, refl, sym, ap, _∙_, subst}
 use mathlib.Core.Bool.{Bool, false, _&&_, _||_}
-use mathlib.Core.List.{List, [], _∷_}
+use mathlib.Core.List.{List, []}
 use Prim.Native.Nat.{ℕ, suc, _+_, _-_, _*_, _≤_, _<_}
 use native.Mathlib.Omega.{arith}
 use native.Mathlib.Decide.{decLe}
 use native.Mathlib.Nat.{suc-mul, mul-le-mul-right}
-use lib.Dec.{T, leb, eqb, eqb→eq}
+use lib.Dec.{leb, eqb, eqb→eq}
 use borrow.Author.Tests.{lt-leb}
 use lib.ListN.{length, getD, drop, length-append, List·getD-append}
 use Rattle.model.specs.declared.Head.{Head}
-use Rattle.model.specs.Count.{bit, count, values, rows}
+use Rattle.model.specs.Count.{bit}
 use Rattle.model.specs.Graph.{Graph, nodes, Core, marked, level, index-of}
 use Rattle.model.specs.Layout.{Board, mark-places, index-places, over, graph}
 use Rattle.model.specs.Refusal.{refused-1, refused-2, refused-3, refused-11, build-refusal, query-refusal}

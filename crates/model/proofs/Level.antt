@@ -1,18 +1,16 @@
 -- The laws of levels. Assumes nothing.
 use mathlib.Core.Path.{_≡_, refl, sym, ap, _∙_, subst}
 use mathlib.Core.Bool.{Bool, _&&_}
-use mathlib.Core.List.{List}
 use Prim.Native.Nat.{ℕ, zero, suc, _+_, _-_, _*_, _≤_, _<_}
 use native.Mathlib.Omega.{arith}
 use native.Mathlib.Decide.{decLt, decLe}
 use lib.Dec.{T}
 use lib.ListN.{getD}
-use Rattle.model.specs.Count.{count, rows}
-use Rattle.model.specs.Graph.{Graph, nodes, degree, everybody, Inside, Meets, limits, marked, cover, level-to, level, index-of}
-use Rattle.model.specs.Demand.{CoverLaws, changed, LevelLaws}
+use Rattle.model.specs.Graph.{Graph, nodes, degree, everybody, Inside, limits, marked, cover, level-to, level, index-of}
+use Rattle.model.specs.Demand.{changed, LevelLaws}
 use Rattle.model.proofs.Count.{by-test, test-true, test-false, and-left, and-right, and-both, count-mono, getD-rows, rows-ext}
 use Rattle.model.proofs.Peel.{degree-operator, degree-ride, degree-mono}
-use Rattle.model.proofs.Cover.{limits-operator, limits-ride, cover-core, cover-holds, cover-operator, cover-low-β, cover-laws}
+use Rattle.model.proofs.Cover.{limits-operator, cover-core, cover-holds, cover-operator, cover-low-β, cover-laws}
 
 -- ---- the largest β up to b
 

@@ -11,7 +11,7 @@ use borrow.Author.Tests.{lt-ltb, le-ltb}
 use lib.ListN.{length, getD, set, take, drop, replicate, take-append-drop, getD-replicate, List·getD-eq-default, List·getD-append, length-set}
 use lib.Seq.{getD-set-same, getD-set-other, set-out, set-append-left, drop-set-lt, length-take-le, take-at}
 use Rattle.model.specs.Count.{bit, count, some, lowest}
-use Rattle.model.specs.Graph.{Graph, nodes, degree, everybody, Inside, Meets, Largest, marked, short, settled, removals, without, peel}
+use Rattle.model.specs.Graph.{Graph, nodes, degree, Inside, Meets, Largest, marked, short, settled, removals, without, peel}
 use Rattle.model.specs.Demand.{members, LowestShort, Dropped, PeelLaws}
 use Rattle.model.proofs.Count.{by-test, test-true, test-false, test-ext, and-left, and-right, and-both, count-all, count-mono, count-but-one, count-less, some-holds, some-witness, some-ext, count-ext, count-without, lowest-least, lowest-passes, lowest-lt, lowest-ext}
 

@@ -4,12 +4,11 @@ use mathlib.Core.Bool.{Bool, _&&_}
 use mathlib.Core.List.{List}
 use Prim.Native.Nat.{ℕ, _+_, _-_, _*_, _≤_, _<_}
 use native.Mathlib.Omega.{arith}
-use native.Mathlib.Decide.{decLe}
 use lib.Dec.{T, leb, eqb, leb→le, le→leb}
 use lib.ListN.{getD}
 use Rattle.model.specs.declared.Head.{Head}
-use Rattle.model.specs.Count.{bit, values}
-use Rattle.model.specs.Graph.{Graph, nodes, Inside, Meets, limits, Core, marked, degree, cover, level, index-of}
+use Rattle.model.specs.Count.{bit}
+use Rattle.model.specs.Graph.{Graph, nodes, Core, marked, cover, index-of}
 use Rattle.model.specs.Layout.{mark-places, graph}
 use Rattle.model.specs.Calls.{query-marks}
 use Rattle.model.specs.Demand.{QueryIsCore}

@@ -1,6 +1,5 @@
 -- Document 000, Definition 2.1, and document 01, Terms and Peel: degree, the largest set under limits, peel, cover, level, index.
 -- Nodes are numbered as marks and index rows are: operators 0 .. operators - 1, then rides.
-use mathlib.Core.Path.{_≡_}
 use mathlib.Core.Bool.{Bool, true, false, _&&_, not}
 use mathlib.Core.List.{List, [], _∷_}
 use Prim.Native.Nat.{ℕ, zero, suc, _+_, _-_, _≤_, _<_}

@@ -1,21 +1,21 @@
 -- The place of a pair in a pair table: found by halving, and where it shows that the pair is listed. Assumes nothing.
-use mathlib.Core.Path.{_≡_, refl, sym, ap, ap₂, _∙_, subst, subst₂}
+use mathlib.Core.Path.{_≡_, sym, ap, ap₂, _∙_, subst₂}
 use mathlib.Core.Logic.{_≢_}
-use mathlib.Core.Bool.{Bool, true, false, _&&_}
+use mathlib.Core.Bool.{true, false, _&&_}
 use mathlib.Core.List.{List}
-use Prim.Native.Nat.{ℕ, zero, suc, _+_, _*_, _/_, _%_, _≤_, _<_}
+use Prim.Native.Nat.{ℕ, _+_, _*_, _/_, _%_, _≤_, _<_}
 use native.Mathlib.Omega.{arith}
 use native.Mathlib.Decide.{decLt}
 use native.Mathlib.Nat.{mul-le-mul-right}
 use lib.Dec.{T, ltb, eqb, ltb→lt, lt→ltb, eqb→eq}
 use borrow.Author.Tests.{lt-ltb, le-ltb, eq-eqb, ne-eqb}
 use lib.Arith.{digits-lt, digits-div, digits-mod}
-use lib.ListN.{length, getD}
+use lib.ListN.{getD}
 use Rattle.model.specs.declared.Head.{Head}
 use Rattle.model.specs.Graph.{Graph}
 use Rattle.model.specs.Layout.{pair-places, pair-at, listed, graph}
 use Rattle.model.specs.Message.{pair-numbers}
-use Rattle.model.proofs.Count.{by-test, test-ext, and-left, and-right, and-both, count-le, count-less}
+use Rattle.model.proofs.Count.{test-ext, and-left, and-right, and-both, count-le, count-less}
 use Rattle.model.proofs.Pairs.{Pairs, pair-stands, listed-place, place-listed, table-pairs, pairs-count, length-passing, cleared-number}
 use Rattle.tables.specs.Table.{AcceptedPairs}
 use Rattle.pairs.specs.Change.{FirstPlace}

@@ -1,20 +1,18 @@
 -- Places of a dense table: two places are the same only where row and column are, and storing 1 at one adds its pair. Assumes nothing.
 use mathlib.Core.Path.{_≡_, refl, sym, ap, ap₂, _∙_, subst}
-use mathlib.Core.Logic.{_≢_}
-use mathlib.Core.Bool.{Bool, true, false, _&&_, _||_, not}
+use mathlib.Core.Bool.{Bool, true, false}
 use mathlib.Core.List.{List}
-use Prim.Native.Nat.{ℕ, zero, suc, _+_, _*_, _/_, _%_, _≤_, _<_}
+use Prim.Native.Nat.{ℕ, _+_, _*_, _/_, _%_, _≤_, _<_}
 use native.Mathlib.Omega.{arith}
 use native.Mathlib.Decide.{ℕ-discrete, decLt}
 use native.Mathlib.Nat.{lt-of-lt-of-le}
 use lib.Arith.{digits-lt, digits-div, digits-mod}
-use lib.Dec.{T, eqb, eqb→eq, eqb-refl, ltb}
-use borrow.Author.Tests.{eq-eqb, ne-eqb}
+use lib.Dec.{T, eqb, eqb→eq, eqb-refl}
 use lib.ListN.{length, getD, set}
 use lib.Seq.{getD-set-same, getD-set-other}
-use Rattle.model.specs.Count.{bit, count, some}
+use Rattle.model.specs.Count.{count, some}
 use Rattle.model.specs.Layout.{pair-at, listed}
-use Rattle.model.proofs.Count.{by-test, test-true, test-false, test-ext, and-left, and-right, and-both, some-holds, some-witness}
+use Rattle.model.proofs.Count.{test-true, test-ext, and-left, and-right, and-both, some-holds, some-witness}
 
 -- row i, column j lies inside
 pub place-lt : (a w i j : ℕ) → i < a → j < w → (n : ℕ) → a * w ≤ n → i * w + j < n

@@ -8,7 +8,7 @@ use lib.ListN.{length, getD}
 use Rattle.model.specs.declared.Head.{Head}
 use Rattle.model.specs.Refusal.{refused-5}
 use Rattle.model.specs.Count.{bit}
-use Rattle.model.specs.Graph.{Graph, marked}
+use Rattle.model.specs.Graph.{Graph}
 
 -- t holds the relation r of a rows and b columns: at i × w + j a 1 where r i j holds, else a 0
 pub record Table (r : ℕ → ℕ → Bool) (a b w : ℕ) (t : List ℕ) : Type 0 where

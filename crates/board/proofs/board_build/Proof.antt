@@ -1,20 +1,13 @@
 -- `board_build` meets its contract: it refuses, or stamps the pairs, fills the index and zeroes the tails. Assumes nothing.
 use borrow.Author.Needs.{needs}
-use Prim.Native.Nat.{ℕ, _+_, _*_, _≤_, _<_, _-_}
-use mathlib.Core.Path.{_≡_, refl, sym, ap, _∙_, subst}
+use Prim.Native.Nat.{_-_}
+use mathlib.Core.Path.{_≡_, sym, _∙_}
 use native.Mathlib.Omega.{arith}
 use Rattle.model.specs.Layout.{lent}
 use Rattle.pairs.proofs.Place.{product-small}
 use Rattle.board.proofs.Builds.{build-refused, build-table, build-fits, build-pairs, build-range, build-done}
 use Rattle.board.proofs.board_build.Statement.{statement}
 use Rattle.board.proofs.board_build.Tie as tie
-use Rattle.board.proofs.board_build.Reads as reads
-use Rattle.board.proofs.board_build.Lts as lts
-use Rattle.board.proofs.forget.Reads as forget-reads
-use Rattle.board.proofs.stamp_pairs.Reads as stamp-pairs-reads
-use Rattle.levels.proofs.fill_index.Reads as fill-index-reads
-use Rattle.pairs.proofs.clear_tail.Reads as clear-tail-reads
-use Rattle.refusals.proofs.build_number.Reads as build-number-reads
 
 build-number-requires : tie.Need-build-number-requires
 build-number-requires c κs = search needs

@@ -6,10 +6,6 @@ use Rattle.model.proofs.Store.{getD-zeros}
 use Rattle.board.proofs.Peels.{peel-refused, peel-done, peel-accepted}
 use Rattle.board.proofs.board_peel.Statement.{statement}
 use Rattle.board.proofs.board_peel.Tie as tie
-use Rattle.board.proofs.board_peel.Reads as reads
-use Rattle.board.proofs.board_peel.Lts as lts
-use Rattle.board.proofs.peel_over.Reads as peel-over-reads
-use Rattle.refusals.proofs.peel_number.Reads as peel-number-reads
 
 peel-number-requires : tie.Need-peel-number-requires
 peel-number-requires c κs = search needs

@@ -1,19 +1,13 @@
 -- `board_query` meets its contract: it refuses, or α is above rides and nobody is marked, or one row of the index is read. Assumes nothing.
 use borrow.Author.Needs.{needs}
 use Rattle.levels.proofs.Stored.{index-small}
-use Prim.Native.Nat.{ℕ, _+_, _*_, _-_, _≤_, _<_}
-use mathlib.Core.Path.{_≡_, refl, sym, ap, _∙_, subst}
+use Prim.Native.Nat.{_-_}
+use mathlib.Core.Path.{_≡_, sym, _∙_}
 use native.Mathlib.Omega.{arith}
-use lib.ListN.{length}
 use Rattle.model.specs.Layout.{mark-places}
 use Rattle.board.proofs.Queries.{query-refused, query-long, query-nobody, row-end, row-long, query-row-done}
 use Rattle.board.proofs.board_query.Statement.{statement}
 use Rattle.board.proofs.board_query.Tie as tie
-use Rattle.board.proofs.board_query.Reads as reads
-use Rattle.board.proofs.board_query.Lts as lts
-use Rattle.levels.proofs.clear.Reads as clear-reads
-use Rattle.board.proofs.query_row.Reads as query-row-reads
-use Rattle.refusals.proofs.query_number.Reads as query-number-reads
 
 query-number-requires : tie.Need-query-number-requires
 query-number-requires c κs = search needs

@@ -1,17 +1,15 @@
 -- `board::count_marks` meets its contract. The loop's invariant: the count is how many of the marks below i are 1. Assumes nothing.
 use borrow.Author.Needs.{needs}
-use Prim.Native.Nat.{ℕ, _+_, _≤_, _<_, _-_}
+use Prim.Native.Nat.{ℕ, _≤_, _-_}
 use mathlib.Core.Path.{_≡_, refl, sym, ap, _∙_}
 use native.Mathlib.Omega.{arith}
 use lib.ListN.{length, getD}
 use Rattle.model.specs.Graph.{marked}
-use Rattle.model.specs.Count.{bit, count}
+use Rattle.model.specs.Count.{count}
 use Rattle.model.proofs.Count.{count-le, count-more, count-none}
 use Rattle.board.proofs.Queries.{bit-of}
 use Rattle.board.proofs.count_marks.Statement.{statement}
 use Rattle.board.proofs.count_marks.Tie as tie
-use Rattle.board.proofs.count_marks.Reads as reads
-use Rattle.board.proofs.count_marks.Lts as lts
 
 abbrev Inv-loop : tie.InvT-loop
 Inv-loop marks n count₀ i₀ count i =

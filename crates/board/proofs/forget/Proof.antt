@@ -1,15 +1,13 @@
 -- `board::forget` meets its contract. The loop's invariant: the first k stamps are zero, those past the places are as they came. Assumes nothing.
 use borrow.Author.Needs.{needs}
-use Prim.Native.Nat.{ℕ, _+_, _*_, _≤_, _<_, _-_}
-use mathlib.Core.Path.{_≡_, refl, sym, ap, _∙_, subst}
+use Prim.Native.Nat.{ℕ, _≤_, _<_, _-_}
+use mathlib.Core.Path.{_≡_, refl, _∙_}
 use native.Mathlib.Omega.{arith}
-use lib.ListN.{length, getD, set, drop, length-set}
+use lib.ListN.{length, getD, drop, length-set}
 use lib.Seq.{drop-set-lt}
 use Rattle.model.proofs.Store.{stored}
 use Rattle.board.proofs.forget.Statement.{statement}
 use Rattle.board.proofs.forget.Tie as tie
-use Rattle.board.proofs.forget.Reads as reads
-use Rattle.board.proofs.forget.Lts as lts
 
 abbrev Inv-loop : tie.InvT-loop
 Inv-loop stamps₀ places k₀ stamps k =

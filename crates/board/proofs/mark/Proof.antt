@@ -5,8 +5,6 @@ use borrow.Author.Tests.{lt-ltb, le-ltb}
 use Rattle.model.specs.Count.{bit}
 use Rattle.board.proofs.mark.Statement.{statement}
 use Rattle.board.proofs.mark.Tie as tie
-use Rattle.board.proofs.mark.Reads as reads
-use Rattle.board.proofs.mark.Lts as lts
 
 returns : tie.Need-returns
 returns c = sym (ap bit (lt-ltb (c .before .args .below) (c .before .args .level) (c .if1 .taken)))

@@ -1,6 +1,6 @@
 -- `board::mark_levels` meets its contract. The loop's invariant: the marks below i are those of their levels, and the count is how many of them are 1. Assumes nothing.
 use borrow.Author.Needs.{needs}
-use Prim.Native.Nat.{ℕ, suc, _+_, _≤_, _<_, _-_}
+use Prim.Native.Nat.{ℕ, suc, _≤_, _<_, _-_}
 use mathlib.Core.Path.{_≡_, refl, sym, ap, _∙_, subst}
 use native.Mathlib.Omega.{arith}
 use lib.ListN.{length, getD, length-set}
@@ -11,9 +11,6 @@ use Rattle.model.proofs.Store.{stored}
 use Rattle.board.specs.Words.{Marked}
 use Rattle.board.proofs.mark_levels.Statement.{statement}
 use Rattle.board.proofs.mark_levels.Tie as tie
-use Rattle.board.proofs.mark_levels.Reads as reads
-use Rattle.board.proofs.mark_levels.Lts as lts
-use Rattle.board.proofs.mark.Reads as mark-reads
 
 abbrev Inv-loop : tie.InvT-loop
 Inv-loop levels beta marks₀ n below count₀ i₀ marks count i =

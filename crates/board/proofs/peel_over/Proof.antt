@@ -1,16 +1,11 @@
 -- `board::peel_over` meets its contract: the tables hold the clearances, and `peeling::peel` does the rest. Assumes nothing.
 use borrow.Author.Needs.{needs}
-use mathlib.Core.Path.{_≡_, refl}
 use native.Mathlib.Omega.{arith}
 use Rattle.model.specs.Layout.{graph}
 use Rattle.levels.proofs.Filled.{range-operators, range-rides}
 use Rattle.board.proofs.Peels.{peel-ready}
 use Rattle.board.proofs.peel_over.Statement.{statement}
 use Rattle.board.proofs.peel_over.Tie as tie
-use Rattle.board.proofs.peel_over.Reads as reads
-use Rattle.board.proofs.peel_over.Lts as lts
-use Rattle.peeling.proofs.peel.Reads as peel-reads
-use Rattle.tables.proofs.fill.Reads as fill-reads
 
 cast-pairs : tie.Need-cast-pairs
 cast-pairs c = search needs

@@ -1,14 +1,9 @@
 -- `board::query_row` meets its contract. Assumes nothing.
 use borrow.Author.Needs.{needs}
-use mathlib.Core.Path.{_≡_, refl}
 use native.Mathlib.Omega.{arith}
 use Rattle.board.proofs.Queries.{part-long, part-bits, rides-le, row-marked}
 use Rattle.board.proofs.query_row.Statement.{statement}
 use Rattle.board.proofs.query_row.Tie as tie
-use Rattle.board.proofs.query_row.Reads as reads
-use Rattle.board.proofs.query_row.Lts as lts
-use Rattle.board.proofs.count_marks.Reads as count-marks-reads
-use Rattle.board.proofs.mark_levels.Reads as mark-levels-reads
 
 sub-mark-levels : tie.Need-sub-mark-levels
 sub-mark-levels c = search needs

@@ -1,18 +1,15 @@
 -- `board::stamp_pairs` meets its contract. The loop's invariant: the stamps are those of the first k pairs. Assumes nothing.
 use borrow.Author.Needs.{needs}
 use Prim.Native.Nat.{ℕ, _+_, _*_, _≤_, _<_, _-_}
-use mathlib.Core.Path.{_≡_, refl, sym, ap, _∙_, subst}
+use mathlib.Core.Path.{_≡_, refl, sym, ap, _∙_}
 use native.Mathlib.Omega.{arith}
-use lib.ListN.{length, getD, set, drop, length-set}
+use lib.ListN.{length, getD, drop, length-set}
 use lib.Seq.{drop-set-lt}
-use mathlib.Core.Bool.{Bool}
 use Rattle.model.specs.Layout.{listed}
 use Rattle.tables.proofs.Place.{place-lt, table-more, listed-none}
 use Rattle.board.specs.Words.{stamp-of}
 use Rattle.board.proofs.stamp_pairs.Statement.{statement}
 use Rattle.board.proofs.stamp_pairs.Tie as tie
-use Rattle.board.proofs.stamp_pairs.Reads as reads
-use Rattle.board.proofs.stamp_pairs.Lts as lts
 
 abbrev Inv-loop : tie.InvT-loop
 Inv-loop operators rides pairs n m start stamps₀ k₀ stamps k =

@@ -1,14 +1,12 @@
 -- `levels::add` meets its contract. The loop's invariant: the first j sums are written, the other degrees are as they came. Assumes nothing.
 use borrow.Author.Needs.{needs}
 use Prim.Native.Nat.{ℕ, _+_, _≤_, _<_, _-_}
-use mathlib.Core.Path.{_≡_, refl, sym, ap, _∙_, subst}
+use mathlib.Core.Path.{_≡_, refl, ap}
 use native.Mathlib.Omega.{arith}
 use lib.ListN.{length, getD, length-set}
 use Rattle.model.proofs.Store.{stored, left-alone}
 use Rattle.levels.proofs.add.Statement.{statement}
 use Rattle.levels.proofs.add.Tie as tie
-use Rattle.levels.proofs.add.Reads as reads
-use Rattle.levels.proofs.add.Lts as lts
 
 abbrev Inv-loop : tie.InvT-loop
 Inv-loop degrees₀ row n j₀ degrees j =

@@ -1,19 +1,16 @@
 -- `levels::add_rows` meets its contract. The loop's invariant: the degrees are those within the first i rows. Assumes nothing.
 use borrow.Author.Needs.{needs}
-use Prim.Native.Nat.{ℕ, _+_, _*_, _≤_, _<_, _-_}
-use mathlib.Core.Path.{_≡_, refl, sym, ap, _∙_, subst}
+use Prim.Native.Nat.{ℕ, _*_, _≤_, _<_, _-_}
+use mathlib.Core.Path.{_≡_, refl, sym, ap, _∙_}
 use native.Mathlib.Omega.{arith}
 use lib.ListN.{length, getD}
-use Rattle.model.specs.Count.{bit, count}
+use Rattle.model.specs.Count.{count}
 use Rattle.model.proofs.Count.{bit-le, count-le, count-more, count-none}
 use Rattle.model.proofs.Store.{part-length, part-at}
 use Rattle.levels.specs.Row.{joined}
 use Rattle.levels.proofs.Side.{row-inside}
 use Rattle.levels.proofs.add_rows.Statement.{statement}
 use Rattle.levels.proofs.add_rows.Tie as tie
-use Rattle.levels.proofs.add_rows.Reads as reads
-use Rattle.levels.proofs.add_rows.Lts as lts
-use Rattle.levels.proofs.add.Reads as add-reads
 
 abbrev Inv-loop : tie.InvT-loop
 Inv-loop degrees₀ table width height n i₀ degrees i =

@@ -1,16 +1,11 @@
 -- `levels::any_row` meets its contract: above the largest degree of an operator every level is 0. Assumes nothing.
 use borrow.Author.Needs.{needs}
-use Prim.Native.Nat.{ℕ, _+_, _≤_, _<_, _-_}
-use mathlib.Core.Path.{_≡_, refl, sym, ap, _∙_}
+use Prim.Native.Nat.{_-_}
 use native.Mathlib.Omega.{arith}
 use Rattle.levels.specs.Row.{table-graph}
 use Rattle.levels.proofs.Rows.{zero-row}
 use Rattle.levels.proofs.any_row.Statement.{statement}
 use Rattle.levels.proofs.any_row.Tie as tie
-use Rattle.levels.proofs.any_row.Reads as reads
-use Rattle.levels.proofs.any_row.Lts as lts
-use Rattle.levels.proofs.clear.Reads as clear-reads
-use Rattle.levels.proofs.fill_row.Reads as fill-row-reads
 
 clear-requires : tie.Need-clear-requires
 clear-requires c κs = search needs

@@ -1,14 +1,12 @@
 -- `levels::clear` meets its contract. The loop's invariant: the first i words are zero. Assumes nothing.
 use borrow.Author.Needs.{needs}
-use Prim.Native.Nat.{ℕ, _+_, _≤_, _<_, _-_}
-use mathlib.Core.Path.{_≡_, refl, sym, ap, _∙_, subst}
+use Prim.Native.Nat.{ℕ, _≤_, _<_, _-_}
+use mathlib.Core.Path.{_≡_, refl}
 use native.Mathlib.Omega.{arith}
 use lib.ListN.{length, getD, length-set}
 use Rattle.model.proofs.Store.{stored}
 use Rattle.levels.proofs.clear.Statement.{statement}
 use Rattle.levels.proofs.clear.Tie as tie
-use Rattle.levels.proofs.clear.Reads as reads
-use Rattle.levels.proofs.clear.Lts as lts
 
 abbrev Inv-loop : tie.InvT-loop
 Inv-loop row₀ n i₀ row i =

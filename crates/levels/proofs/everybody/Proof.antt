@@ -2,18 +2,15 @@
 use borrow.Author.Needs.{needs}
 use borrow.Rule.Slice.PartMut.{same-len-mid}
 use mathlib.Core.List.{List}
-use Prim.Native.Nat.{ℕ, _+_, _≤_, _<_, _-_}
-use mathlib.Core.Path.{_≡_, refl, sym, ap, _∙_, subst}
+use Prim.Native.Nat.{ℕ, _-_}
+use mathlib.Core.Path.{sym, _∙_, subst}
 use native.Mathlib.Omega.{arith}
-use lib.ListN.{length, getD, replicate, getD-replicate, List·getD-append}
+use lib.ListN.{replicate, getD-replicate, List·getD-append}
 use Rattle.tables.specs.Table.{Table}
 use Rattle.levels.specs.Row.{joined}
 use Rattle.levels.proofs.Rows.{first-length, first-at, ride-table, added-operator, added-ride}
 use Rattle.levels.proofs.everybody.Statement.{statement}
 use Rattle.levels.proofs.everybody.Tie as tie
-use Rattle.levels.proofs.everybody.Reads as reads
-use Rattle.levels.proofs.everybody.Lts as lts
-use Rattle.levels.proofs.add_rows.Reads as add-rows-reads
 
 sub-add-rows : tie.Need-sub-add-rows
 sub-add-rows c = search needs

@@ -1,13 +1,10 @@
 -- `levels::fill_index` meets its contract: tables of zeros are filled, and the index from them. Assumes nothing.
 use borrow.Author.Needs.{needs}
-use Prim.Native.Nat.{ℕ, _+_, _*_, _≤_, _<_, _-_}
-use mathlib.Core.Path.{_≡_, refl}
+use Prim.Native.Nat.{_-_}
+use mathlib.Core.Path.{refl}
 use Rattle.model.proofs.Store.{getD-zeros}
 use Rattle.levels.proofs.fill_index.Statement.{statement}
 use Rattle.levels.proofs.fill_index.Tie as tie
-use Rattle.levels.proofs.fill_index.Reads as reads
-use Rattle.levels.proofs.fill_index.Lts as lts
-use Rattle.levels.proofs.fill_over.Reads as fill-over-reads
 
 slice-aggregate-fill-over : tie.Need-slice-aggregate-fill-over
 slice-aggregate-fill-over c = search needs

@@ -1,21 +1,15 @@
 -- `levels::fill_over` meets its contract: the tables hold the clearances, and every row is filled from them. Assumes nothing.
 use borrow.Author.Needs.{needs}
 use mathlib.Core.List.{List}
-use Prim.Native.Nat.{ℕ, _+_, _*_, _≤_, _<_, _-_}
-use mathlib.Core.Path.{_≡_, refl, sym, ap, _∙_, subst}
+use Prim.Native.Nat.{ℕ, _+_, _≤_, _-_}
+use mathlib.Core.Path.{ap, _∙_}
 use native.Mathlib.Omega.{arith}
-use lib.ListN.{length, getD}
+use lib.ListN.{length}
 use Rattle.model.specs.Layout.{over, index-places, differing}
-use Rattle.levels.proofs.Rows.{first-length, first-at}
+use Rattle.levels.proofs.Rows.{first-length}
 use Rattle.levels.proofs.Filled.{range-operators, range-rides, filled-tables, filled-index}
 use Rattle.levels.proofs.fill_over.Statement.{statement}
 use Rattle.levels.proofs.fill_over.Tie as tie
-use Rattle.levels.proofs.fill_over.Reads as reads
-use Rattle.levels.proofs.fill_over.Lts as lts
-use Rattle.levels.proofs.everybody.Reads as everybody-reads
-use Rattle.levels.proofs.fill_rows.Reads as fill-rows-reads
-use Rattle.levels.proofs.largest_of.Reads as largest-of-reads
-use Rattle.tables.proofs.fill.Reads as fill-reads
 
 cast-n : tie.Need-cast-n
 cast-n c = search needs

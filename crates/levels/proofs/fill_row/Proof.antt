@@ -1,18 +1,13 @@
 -- `levels::fill_row` meets its contract: `raise`, from everybody. Assumes nothing.
 use borrow.Author.Needs.{needs}
-use Prim.Native.Nat.{ℕ, _+_, _≤_, _<_, _-_}
-use mathlib.Core.Path.{_≡_, refl, sym, ap, _∙_, subst}
+use Prim.Native.Nat.{ℕ, _≤_, _-_}
+use mathlib.Core.Path.{refl}
 use native.Mathlib.Omega.{arith}
-use lib.ListN.{length, getD, replicate, getD-replicate, List·getD-append}
-use Rattle.tables.specs.Table.{Table}
-use Rattle.levels.specs.Row.{joined}
+use lib.ListN.{length, replicate, getD-replicate}
 use mathlib.Core.List.{List}
 use Rattle.levels.proofs.Rows.{row-fits, row-start, row-done}
 use Rattle.levels.proofs.fill_row.Statement.{statement}
 use Rattle.levels.proofs.fill_row.Tie as tie
-use Rattle.levels.proofs.fill_row.Reads as reads
-use Rattle.levels.proofs.fill_row.Lts as lts
-use Rattle.levels.proofs.raise.Reads as raise-reads
 
 sub-raise : tie.Need-sub-raise
 sub-raise c = search needs

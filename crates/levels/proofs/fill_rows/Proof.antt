@@ -8,22 +8,18 @@ use Rattle.model.proofs.Differ.{differing-none, differing-le}
 use Rattle.levels.proofs.Side.{row-inside}
 use Rattle.levels.proofs.Rows.{row-values}
 use borrow.Rule.Slice.PartMut.{same-len-mid}
-use Prim.Native.Nat.{ℕ, suc, _+_, _*_, _≤_, _<_, _-_}
+use Prim.Native.Nat.{ℕ, suc, _+_, _*_, _≤_, _-_}
 use mathlib.Core.Path.{_≡_, refl, sym, ap, _∙_, subst}
 use mathlib.Core.List.{_++_}
 use native.Mathlib.Omega.{arith}
-use lib.ListN.{length, getD, drop}
+use lib.ListN.{length, drop}
 use Rattle.model.specs.Count.{rows}
 use Rattle.model.specs.Graph.{level}
 use Rattle.model.specs.Layout.{differing}
 use Rattle.levels.specs.Row.{table-graph}
-use Rattle.levels.proofs.Stored.{stored-row, differing-row, no-rows, all-rows}
+use Rattle.levels.proofs.Stored.{stored-row, differing-row, no-rows}
 use Rattle.levels.proofs.fill_rows.Statement.{statement}
 use Rattle.levels.proofs.fill_rows.Tie as tie
-use Rattle.levels.proofs.fill_rows.Reads as reads
-use Rattle.levels.proofs.fill_rows.Lts as lts
-use Rattle.levels.proofs.any_row.Reads as any-row-reads
-use Rattle.levels.proofs.store.Reads as store-reads
 
 abbrev Inv-loop : tie.InvT-loop
 Inv-loop by-operator by-ride degrees n m high row₀ index₀ w differ₀ a₀ row index differ a =

@@ -1,15 +1,12 @@
 -- `levels::largest` meets its contract. The loop's invariant: high is at least the first i degrees. Assumes nothing.
 use borrow.Author.Needs.{needs}
-use Prim.Native.Nat.{ℕ, _+_, _≤_, _<_, _-_}
-use mathlib.Core.Path.{_≡_, refl, sym, ap, _∙_, subst}
+use Prim.Native.Nat.{ℕ, _≤_, _<_, _-_}
+use mathlib.Core.Path.{_≡_, refl}
 use native.Mathlib.Omega.{arith}
-use lib.ListN.{length, getD, length-set}
+use lib.ListN.{length, getD}
 use borrow.Author.Count.{below-more}
 use Rattle.levels.proofs.largest.Statement.{statement}
 use Rattle.levels.proofs.largest.Tie as tie
-use Rattle.levels.proofs.largest.Reads as reads
-use Rattle.levels.proofs.largest.Lts as lts
-use Rattle.levels.proofs.higher.Reads as higher-reads
 
 abbrev Inv-loop : tie.InvT-loop
 Inv-loop degrees n high₀ i₀ high i =

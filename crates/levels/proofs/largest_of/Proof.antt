@@ -1,15 +1,11 @@
 -- `levels::largest_of` meets its contract. Assumes nothing.
 use borrow.Author.Needs.{needs}
-use Prim.Native.Nat.{ℕ, _+_, _*_, _≤_, _<_, _-_}
-use mathlib.Core.Path.{_≡_, refl, sym, ap, _∙_, subst}
+use Prim.Native.Nat.{ℕ, _≤_, _-_}
+use mathlib.Core.Path.{subst}
 use native.Mathlib.Omega.{arith}
-use lib.ListN.{length, getD}
 use Rattle.levels.proofs.Rows.{first-length, first-at}
 use Rattle.levels.proofs.largest_of.Statement.{statement}
 use Rattle.levels.proofs.largest_of.Tie as tie
-use Rattle.levels.proofs.largest_of.Reads as reads
-use Rattle.levels.proofs.largest_of.Lts as lts
-use Rattle.levels.proofs.largest.Reads as largest-reads
 
 sub-largest : tie.Need-sub-largest
 sub-largest c = search needs

@@ -1,6 +1,6 @@
 -- `levels::least` meets its contract. The loop's invariant: low is the least degree among the first i nodes. Assumes nothing.
 use borrow.Author.Needs.{needs}
-use Prim.Native.Nat.{ℕ, _+_, _≤_, _<_, _-_}
+use Prim.Native.Nat.{_≤_, _-_}
 use mathlib.Core.Path.{_≡_, refl}
 use native.Mathlib.Omega.{arith}
 use lib.ListN.{length}
@@ -8,9 +8,6 @@ use Rattle.levels.specs.Row.{Least}
 use Rattle.levels.proofs.Raising.{least-none, least-more}
 use Rattle.levels.proofs.least.Statement.{statement}
 use Rattle.levels.proofs.least.Tie as tie
-use Rattle.levels.proofs.least.Reads as reads
-use Rattle.levels.proofs.least.Lts as lts
-use Rattle.levels.proofs.lower.Reads as lower-reads
 
 abbrev Inv-loop : tie.InvT-loop
 Inv-loop kept degrees n low₀ i₀ low i =

@@ -1,17 +1,13 @@
 -- `levels::raise` meets its contract. The loop's invariant: the kept lie between cover (α, β) and cover (α, β - 1), and whoever is removed has its level; β grows. Assumes nothing.
 use borrow.Author.Needs.{needs}
-use Prim.Native.Nat.{ℕ, _+_, _≤_, _<_, _-_}
-use mathlib.Core.Path.{_≡_, refl, sym, ap, _∙_, subst, subst₂}
+use Prim.Native.Nat.{ℕ, _≤_, _-_}
+use mathlib.Core.Path.{sym, subst, subst₂}
 use native.Mathlib.Omega.{arith}
-use lib.ListN.{length, getD}
+use lib.ListN.{length}
 use Rattle.levels.specs.Row.{work, table-graph, Fits, Raising, Settled, Least}
 use Rattle.levels.proofs.Raising.{fits-again, raising-start, raising-next, raising-end, least-high}
 use Rattle.levels.proofs.raise.Statement.{statement}
 use Rattle.levels.proofs.raise.Tie as tie
-use Rattle.levels.proofs.raise.Reads as reads
-use Rattle.levels.proofs.raise.Lts as lts
-use Rattle.levels.proofs.least.Reads as least-reads
-use Rattle.levels.proofs.settle.Reads as settle-reads
 
 abbrev Inv-loop : tie.InvT-loop
 Inv-loop operators₀ operator-degrees₀ rides₀ ride-degrees₀ row₀ by-operator by-ride alpha beta₀ operators operator-degrees rides ride-degrees row beta =

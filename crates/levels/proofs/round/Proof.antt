@@ -1,15 +1,11 @@
 -- `levels::round` meets its contract: both sweeps remove only who is outside the cover. Assumes nothing.
 use borrow.Author.Needs.{needs}
-use Prim.Native.Nat.{ℕ, _+_, _≤_, _<_, _-_}
-use mathlib.Core.Path.{_≡_, refl, sym, ap, _∙_, subst}
+use Prim.Native.Nat.{_-_}
 use native.Mathlib.Omega.{arith}
-use lib.ListN.{length, getD}
+use lib.ListN.{length}
 use Rattle.levels.proofs.Raising.{rides-part, operators-part, rounded}
 use Rattle.levels.proofs.round.Statement.{statement}
 use Rattle.levels.proofs.round.Tie as tie
-use Rattle.levels.proofs.round.Reads as reads
-use Rattle.levels.proofs.round.Lts as lts
-use Rattle.levels.proofs.sweep.Reads as sweep-reads
 
 add-end : tie.Need-add-end
 add-end c = search needs

@@ -1,13 +1,10 @@
 -- `levels::row_of` meets its contract: tables of zeros are filled, and one row from them. Assumes nothing.
 use borrow.Author.Needs.{needs}
-use Prim.Native.Nat.{ℕ, _+_, _*_, _≤_, _<_, _-_}
-use mathlib.Core.Path.{_≡_, refl}
+use Prim.Native.Nat.{_-_}
+use mathlib.Core.Path.{refl}
 use Rattle.model.proofs.Store.{getD-zeros}
 use Rattle.levels.proofs.row_of.Statement.{statement}
 use Rattle.levels.proofs.row_of.Tie as tie
-use Rattle.levels.proofs.row_of.Reads as reads
-use Rattle.levels.proofs.row_of.Lts as lts
-use Rattle.levels.proofs.row_over.Reads as row-over-reads
 
 slice-aggregate-row-over : tie.Need-slice-aggregate-row-over
 slice-aggregate-row-over c = search needs

@@ -1,16 +1,11 @@
 -- `levels::row_over` meets its contract: the tables hold the clearances, and one row is filled from them. Assumes nothing.
 use borrow.Author.Needs.{needs}
-use Prim.Native.Nat.{ℕ, _+_, _*_, _≤_, _<_, _-_}
-use mathlib.Core.Path.{_≡_, refl, _∙_}
+use Prim.Native.Nat.{_-_}
+use mathlib.Core.Path.{_∙_}
 use native.Mathlib.Omega.{arith}
 use Rattle.levels.proofs.Filled.{range-operators, range-rides, filled-tables, filled-row}
 use Rattle.levels.proofs.row_over.Statement.{statement}
 use Rattle.levels.proofs.row_over.Tie as tie
-use Rattle.levels.proofs.row_over.Reads as reads
-use Rattle.levels.proofs.row_over.Lts as lts
-use Rattle.levels.proofs.everybody.Reads as everybody-reads
-use Rattle.levels.proofs.fill_row.Reads as fill-row-reads
-use Rattle.tables.proofs.fill.Reads as fill-reads
 
 cast-n : tie.Need-cast-n
 cast-n c = search needs

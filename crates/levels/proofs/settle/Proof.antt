@@ -1,21 +1,17 @@
 -- `levels::settle` meets its contract. The loop's invariant: no member of the cover is removed, and whoever is removed has its level; each turn but the last removes an operator. Assumes nothing.
 use borrow.Author.Needs.{needs}
 use mathlib.Core.Path.{subst₂}
-use Rattle.model.specs.Graph.{Graph}
 use Rattle.levels.specs.Row.{Rounded}
 use Rattle.levels.proofs.Raising.{fits-again}
-use Prim.Native.Nat.{ℕ, _+_, _≤_, _<_, _-_}
-use mathlib.Core.Path.{_≡_, refl, sym, ap, _∙_, subst}
+use Prim.Native.Nat.{ℕ, _-_}
+use mathlib.Core.Path.{sym}
 use native.Mathlib.Omega.{arith}
-use lib.ListN.{length, getD}
+use lib.ListN.{length}
 use Rattle.model.specs.Count.{count}
 use Rattle.model.specs.Graph.{marked}
 use Rattle.levels.specs.Row.{work, table-graph, Fits, Raising}
 use Rattle.levels.proofs.settle.Statement.{statement}
 use Rattle.levels.proofs.settle.Tie as tie
-use Rattle.levels.proofs.settle.Reads as reads
-use Rattle.levels.proofs.settle.Lts as lts
-use Rattle.levels.proofs.round.Reads as round-reads
 
 abbrev Inv-loop : tie.InvT-loop
 Inv-loop operators₀ operator-degrees₀ rides₀ ride-degrees₀ row₀ by-operator by-ride alpha beta operators operator-degrees rides ride-degrees row =

@@ -6,17 +6,14 @@ use mathlib.Core.Bool.{not}
 use lib.Dec.{eqb}
 use lib.Seq.{ext-getD}
 use Rattle.model.specs.Layout.{differing}
-use Prim.Native.Nat.{ℕ, _+_, _≤_, _<_, _-_}
-use mathlib.Core.Path.{_≡_, refl, sym, ap, _∙_, subst}
+use Prim.Native.Nat.{ℕ, _≤_, _<_, _-_}
+use mathlib.Core.Path.{_≡_, refl, sym, ap, _∙_}
 use native.Mathlib.Omega.{arith}
 use lib.ListN.{length, getD, length-set}
 use Rattle.model.proofs.Store.{stored, left-alone}
-use Rattle.model.specs.Count.{bit, count}
+use Rattle.model.specs.Count.{bit}
 use Rattle.levels.proofs.store.Statement.{statement}
 use Rattle.levels.proofs.store.Tie as tie
-use Rattle.levels.proofs.store.Reads as reads
-use Rattle.levels.proofs.store.Lts as lts
-use Rattle.levels.proofs.unequal.Reads as unequal-reads
 
 abbrev Inv-loop : tie.InvT-loop
 Inv-loop part₀ row n differ₀ i₀ part differ i =

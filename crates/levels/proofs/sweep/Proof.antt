@@ -1,17 +1,14 @@
 -- `levels::sweep` meets its contract. The loop's invariant: the first i nodes are swept. Assumes nothing.
 use borrow.Author.Needs.{needs}
-use Prim.Native.Nat.{ℕ, _+_, _≤_, _<_, _-_}
-use mathlib.Core.Path.{_≡_, refl, sym, ap, _∙_, subst}
+use Prim.Native.Nat.{_≤_, _-_}
+use mathlib.Core.Path.{_≡_, refl}
 use native.Mathlib.Omega.{arith}
-use lib.ListN.{length, getD}
+use lib.ListN.{length}
 use Rattle.model.proofs.Count.{bit-le, count-le}
 use Rattle.levels.specs.Row.{falls, Swept}
 use Rattle.levels.proofs.Side.{side-again, swept-none, swept-more}
 use Rattle.levels.proofs.sweep.Statement.{statement}
 use Rattle.levels.proofs.sweep.Tie as tie
-use Rattle.levels.proofs.sweep.Reads as reads
-use Rattle.levels.proofs.sweep.Lts as lts
-use Rattle.levels.proofs.visit.Reads as visit-reads
 
 abbrev Inv-loop : tie.InvT-loop
 Inv-loop kept₀ degrees limit levels₀ level others₀ table width n removed₀ i₀ kept levels others removed i =

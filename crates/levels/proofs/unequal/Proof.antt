@@ -1,13 +1,10 @@
 -- `levels::unequal` meets its contract. Assumes nothing.
-use borrow.Author.Needs.{needs}
 use mathlib.Core.Path.{sym, ap}
 use mathlib.Core.Bool.{Bool, not}
 use borrow.Author.Tests.{eq-eqb, ne-eqb}
 use Rattle.model.specs.Count.{bit}
 use Rattle.levels.proofs.unequal.Statement.{statement}
 use Rattle.levels.proofs.unequal.Tie as tie
-use Rattle.levels.proofs.unequal.Reads as reads
-use Rattle.levels.proofs.unequal.Lts as lts
 
 returns : tie.Need-returns
 returns c = sym (ap (λ (b : Bool). bit (not b)) (eq-eqb (c .before .args .a) (c .before .args .b) (c .if1 .taken)))

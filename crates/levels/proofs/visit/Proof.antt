@@ -1,15 +1,13 @@
 -- `levels::visit` meets its contract: the node stays, or its row is subtracted from the others' degrees. Assumes nothing.
 use borrow.Author.Needs.{needs}
-use Prim.Native.Nat.{ℕ, _+_, _*_, _≤_, _<_, _-_}
-use mathlib.Core.Path.{_≡_, refl, sym, ap, _∙_, subst}
+use Prim.Native.Nat.{ℕ, _*_, _≤_, _-_}
+use mathlib.Core.Path.{sym, subst}
 use native.Mathlib.Omega.{arith}
 use lib.ListN.{length, getD}
 use Rattle.model.proofs.Store.{part-length, part-at}
 use Rattle.levels.proofs.Side.{removed-before, row-inside, degree-enough, falls-true, visited-kept, visited-removed, row-counted}
 use Rattle.levels.proofs.visit.Statement.{statement}
 use Rattle.levels.proofs.visit.Tie as tie
-use Rattle.levels.proofs.visit.Reads as reads
-use Rattle.levels.proofs.visit.Lts as lts
 
 slice-read-if1 : tie.Need-slice-read-if1
 slice-read-if1 c = search needs

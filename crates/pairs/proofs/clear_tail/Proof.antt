@@ -1,11 +1,11 @@
 -- `pairs::clear_tail` meets its contract. The loop's invariant: the words from the first place up to i are zero, the others as they came. Assumes nothing.
 use borrow.Author.Needs.{needs}
-use Prim.Native.Nat.{ℕ, _+_, _*_, _≤_, _<_, _-_}
-use mathlib.Core.Path.{_≡_, refl, sym, ap, _∙_}
+use Prim.Native.Nat.{ℕ, _+_, _≤_, _-_}
+use mathlib.Core.Path.{_≡_, refl, ap, _∙_}
 use mathlib.Core.List.{List, _++_}
 use native.Mathlib.Omega.{arith}
-use lib.ListN.{length, getD, set, take, drop, replicate, length-set}
-use Rattle.pairs.proofs.Words.{front, length-front, tail-none, tail-more, tail-done}
+use lib.ListN.{length, set, take, drop, replicate, length-set}
+use Rattle.pairs.proofs.Words.{tail-none, tail-more, tail-done}
 use Rattle.pairs.proofs.clear_tail.Statement.{statement}
 use Rattle.pairs.proofs.clear_tail.Tie as tie
 

@@ -1,10 +1,9 @@
 -- `pairs::place_of` meets its contract. The loop's invariant: the pairs below low are before the one looked for, those from high on are not. Assumes nothing.
 use borrow.Author.Needs.{needs}
-use native.Mathlib.Nat.{div-lt-self}
 use Prim.Native.Nat.{ℕ, _+_, _*_, _≤_, _<_, _-_, _/_}
 use native.Mathlib.Omega.{arith}
 use lib.ListN.{getD}
-use Rattle.pairs.proofs.Place.{number, held, number-small, number-fits, half-before, half-behind}
+use Rattle.pairs.proofs.Place.{number, number-small, number-fits, half-before, half-behind}
 use Rattle.pairs.proofs.place_of.Statement.{statement}
 use Rattle.pairs.proofs.place_of.Tie as tie
 

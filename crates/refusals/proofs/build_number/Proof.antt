@@ -4,18 +4,14 @@ use mathlib.Core.Path.{subst}
 use mathlib.Core.Bool.{Bool}
 use lib.Dec.{T}
 use Rattle.model.specs.Refusal.{lowest-number, table-cases}
-use Prim.Native.Nat.{ℕ, _+_, _*_, _≤_, _<_, _-_}
-use mathlib.Core.Path.{_≡_, refl, sym, ap, _∙_}
+use Prim.Native.Nat.{_-_}
+use mathlib.Core.Path.{sym, ap, _∙_}
 use native.Mathlib.Omega.{arith}
 use Rattle.model.specs.Layout.{lent}
 use Rattle.refusals.proofs.Chain.{build-table, build-9, build-0}
 use Rattle.model.proofs.Refusal.{board-long}
 use Rattle.refusals.proofs.build_number.Statement.{statement}
 use Rattle.refusals.proofs.build_number.Tie as tie
-use Rattle.refusals.proofs.build_number.Reads as reads
-use Rattle.refusals.proofs.build_number.Lts as lts
-use Rattle.refusals.proofs.short_board.Reads as short-board-reads
-use Rattle.refusals.proofs.table_number.Reads as table-number-reads
 
 short-board-requires : tie.Need-short-board-requires
 short-board-requires c κs = search needs

@@ -4,8 +4,6 @@ use lib.Dec.{T}
 use Rattle.model.proofs.Refusal.{lowest-here, lowest-skip}
 use Rattle.refusals.proofs.lowest.Statement.{statement}
 use Rattle.refusals.proofs.lowest.Tie as tie
-use Rattle.refusals.proofs.lowest.Reads as reads
-use Rattle.refusals.proofs.lowest.Lts as lts
 
 returns : tie.Need-returns
 returns c = λ cs e. sym (lowest-here _ _ cs (subst T (sym (c .if1 .taken)) tt))

@@ -1,6 +1,6 @@
 -- `refusals::not_later` meets its contract: the stamps are compared, and at equal stamps the kinds. Assumes nothing.
 use borrow.Author.Needs.{needs}
-use mathlib.Core.Path.{sym, ap, _∙_}
+use mathlib.Core.Path.{ap, _∙_}
 use mathlib.Core.Bool.{not}
 use native.Mathlib.Omega.{arith}
 use Rattle.model.specs.Layout.{lent}

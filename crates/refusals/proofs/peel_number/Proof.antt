@@ -1,23 +1,14 @@
 -- `refusals::peel_number` meets its contract: 1 to 5 first, then 11 and 12. Assumes nothing.
 use borrow.Author.Needs.{needs}
-use Prim.Native.Nat.{ℕ, _+_, _*_, _≤_, _<_, _-_}
-use mathlib.Core.Path.{_≡_, refl, sym, ap, _∙_, subst}
-use mathlib.Core.Bool.{Bool, true, false, _||_}
+use Prim.Native.Nat.{_-_}
+use mathlib.Core.Path.{sym, ap, _∙_, subst}
+use mathlib.Core.Bool.{Bool}
 use native.Mathlib.Omega.{arith}
 use lib.Dec.{T}
-use lib.ListN.{length}
-use Rattle.model.specs.Layout.{pair-places, mark-places}
-use Rattle.model.specs.Refusal.{refused-3, lowest-number, table-cases}
-use Rattle.model.proofs.Count.{or-left, or-right}
-use Rattle.model.proofs.Refusal.{enough}
+use Rattle.model.specs.Refusal.{lowest-number, table-cases}
 use Rattle.refusals.proofs.Chain.{alpha-zero, beta-zero, short-parts, table-long, peel-long, peel-table, peel-11, peel-12, peel-0}
 use Rattle.refusals.proofs.peel_number.Statement.{statement}
 use Rattle.refusals.proofs.peel_number.Tie as tie
-use Rattle.refusals.proofs.peel_number.Reads as reads
-use Rattle.refusals.proofs.peel_number.Lts as lts
-use Rattle.refusals.proofs.bad_marks.Reads as bad-marks-reads
-use Rattle.refusals.proofs.short_peel.Reads as short-peel-reads
-use Rattle.refusals.proofs.table_number.Reads as table-number-reads
 
 short-peel-requires : tie.Need-short-peel-requires
 short-peel-requires c κs = search needs

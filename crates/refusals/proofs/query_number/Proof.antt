@@ -1,13 +1,10 @@
 -- `refusals::query_number` meets its contract: its numbers in ascending order. Assumes nothing.
 use borrow.Author.Needs.{needs}
-use Prim.Native.Nat.{ℕ, _+_, _*_, _≤_, _<_, _-_}
+use Prim.Native.Nat.{_-_}
 use native.Mathlib.Omega.{arith}
 use Rattle.refusals.proofs.Chain.{product-fits, query-lowest}
 use Rattle.refusals.proofs.query_number.Statement.{statement}
 use Rattle.refusals.proofs.query_number.Tie as tie
-use Rattle.refusals.proofs.query_number.Reads as reads
-use Rattle.refusals.proofs.query_number.Lts as lts
-use Rattle.refusals.proofs.lowest.Reads as lowest-reads
 
 cast-n : tie.Need-cast-n
 cast-n c = search needs

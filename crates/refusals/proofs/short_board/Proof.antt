@@ -1,14 +1,10 @@
 -- `refusals::short_board` meets its contract: 3 of a board, part by part. Assumes nothing.
 use borrow.Author.Needs.{needs}
-use Prim.Native.Nat.{ℕ, _+_, _*_, _≤_, _<_}
-use mathlib.Core.Path.{_≡_, refl, sym, ap, _∙_}
 use native.Mathlib.Omega.{arith}
 use Rattle.model.specs.Layout.{lent}
 use Rattle.refusals.proofs.Chain.{product-fits, short-operators, short-rides, short-stamps, short-index}
 use Rattle.refusals.proofs.short_board.Statement.{statement}
 use Rattle.refusals.proofs.short_board.Tie as tie
-use Rattle.refusals.proofs.short_board.Reads as reads
-use Rattle.refusals.proofs.short_board.Lts as lts
 
 cast-n : tie.Need-cast-n
 cast-n c = search needs

@@ -3,7 +3,6 @@ use borrow.Author.Needs.{needs}
 use mathlib.Core.Path.{sym, ap, _∙_}
 use mathlib.Core.Bool.{Bool, _||_}
 use Rattle.model.specs.Refusal.{refused-3}
-use native.Mathlib.Omega.{arith}
 use Rattle.refusals.proofs.short_list.Statement.{statement}
 use Rattle.refusals.proofs.short_list.Tie as tie
 

@@ -1,14 +1,10 @@
 -- `refusals::short_peel` meets its contract: 3 of a peel, part by part. Assumes nothing.
 use borrow.Author.Needs.{needs}
-use Prim.Native.Nat.{ℕ, _+_, _*_, _≤_, _<_, _-_}
-use mathlib.Core.Path.{_≡_, refl, sym, ap, _∙_}
+use Prim.Native.Nat.{_-_}
 use native.Mathlib.Omega.{arith}
-use Rattle.model.specs.Layout.{lent}
 use Rattle.refusals.proofs.Chain.{product-fits, peel-operators, peel-rides, peel-marks}
 use Rattle.refusals.proofs.short_peel.Statement.{statement}
 use Rattle.refusals.proofs.short_peel.Tie as tie
-use Rattle.refusals.proofs.short_peel.Reads as reads
-use Rattle.refusals.proofs.short_peel.Lts as lts
 
 cast-n : tie.Need-cast-n
 cast-n c = search needs

@@ -1,17 +1,10 @@
 -- `refusals::table_number` meets its contract: 1 to 5, each where those before it do not apply. Assumes nothing.
-use borrow.Author.Needs.{needs}
-use Prim.Native.Nat.{ℕ, _+_, _*_, _≤_, _<_}
-use mathlib.Core.Path.{_≡_, refl, sym, ap, _∙_}
+use mathlib.Core.Path.{sym, _∙_}
 use native.Mathlib.Omega.{arith}
-use Rattle.model.specs.Layout.{lent}
-use Rattle.model.proofs.Refusal.{not-less}
 use Rattle.pairs.proofs.Place.{product-small}
 use Rattle.refusals.proofs.Chain.{table-0, table-1, table-2, table-3, table-4, table-5}
 use Rattle.refusals.proofs.table_number.Statement.{statement}
 use Rattle.refusals.proofs.table_number.Tie as tie
-use Rattle.refusals.proofs.table_number.Reads as reads
-use Rattle.refusals.proofs.table_number.Lts as lts
-use Rattle.tables.proofs.ascending.Reads as ascending-reads
 
 returns : tie.Need-returns
 returns c = let a = c .before .before .before .before .args in table-1 (a .head) (a .short) (a .operators .now) (a .rides .now) (omega arith)

@@ -1,11 +1,10 @@
 -- `refusals::unstamped` meets its contract. The loop's invariant: the pairs at the places passed have stamps. Assumes nothing.
 use borrow.Author.Needs.{needs}
 use Prim.Native.Nat.{ℕ, _+_, _*_, _≤_, _<_, _-_}
-use mathlib.Core.Path.{_≡_}
 use mathlib.Core.Logic.{_≢_}
 use native.Mathlib.Omega.{arith}
 use borrow.Author.Count.{below-more}
-use lib.ListN.{length, getD}
+use lib.ListN.{getD}
 use Rattle.model.specs.Layout.{lent}
 use Rattle.tables.proofs.Place.{place-lt}
 use Rattle.pairs.proofs.Place.{held, number-fits}

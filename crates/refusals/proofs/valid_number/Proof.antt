@@ -1,5 +1,4 @@
 -- `refusals::valid_number` meets its contract. Assumes nothing.
-use borrow.Author.Needs.{needs}
 use native.Mathlib.Omega.{arith}
 use Rattle.refusals.proofs.Message.{kind-zero, kind-over, operator-over, ride-over, stamp-zero, all-valid}
 use Rattle.refusals.proofs.valid_number.Statement.{statement}

@@ -1,6 +1,6 @@
 -- `tables::ascending` meets its contract. The loop's invariant: none of the first i pairs is misplaced. Assumes nothing.
 use borrow.Author.Needs.{needs}
-use borrow.Author.Count.{below-more, below-none}
+use borrow.Author.Count.{below-more}
 use mathlib.Core.Path.{_≡_, refl, sym, _∙_}
 use mathlib.Core.Bool.{false}
 use Prim.Native.Nat.{ℕ, _≤_, _<_, _-_}
@@ -9,9 +9,6 @@ use Rattle.model.specs.Refusal.{misplaced}
 use Rattle.tables.proofs.Order.{one-misplaced, none-misplaced}
 use Rattle.tables.proofs.ascending.Statement.{statement}
 use Rattle.tables.proofs.ascending.Tie as tie
-use Rattle.tables.proofs.ascending.Reads as reads
-use Rattle.tables.proofs.ascending.Lts as lts
-use Rattle.tables.proofs.misplaced.Reads as misplaced-reads
 
 abbrev Inv-loop : tie.InvT-loop
 Inv-loop head operators rides pairs i₀ i = (pairs ≡ head .pairs) × (i ≤ pairs) × ((k : ℕ) → k < i → misplaced head operators rides k ≡ false)

@@ -3,14 +3,12 @@ use borrow.Author.Needs.{needs}
 use mathlib.Core.Path.{_≡_, refl, sym, ap, _∙_}
 use Prim.Native.Nat.{ℕ, _+_, _*_, _≤_, _<_, _-_}
 use native.Mathlib.Omega.{arith}
-use lib.ListN.{length, getD, set, length-set}
+use lib.ListN.{length, getD, length-set}
 use Rattle.model.specs.Count.{bit}
 use Rattle.model.specs.Layout.{listed}
 use Rattle.tables.proofs.Place.{place-lt, table-more, listed-none}
 use Rattle.tables.proofs.fill.Statement.{statement}
 use Rattle.tables.proofs.fill.Tie as tie
-use Rattle.tables.proofs.fill.Reads as reads
-use Rattle.tables.proofs.fill.Lts as lts
 
 abbrev Inv-loop : tie.InvT-loop
 Inv-loop rows columns pairs width height table₀ k₀ table k =

@@ -4,8 +4,6 @@ use native.Mathlib.Omega.{arith}
 use Rattle.tables.proofs.Order.{high-operator, high-ride, first-place, next-operator, same-operator, lower-operator}
 use Rattle.tables.proofs.misplaced.Statement.{statement}
 use Rattle.tables.proofs.misplaced.Tie as tie
-use Rattle.tables.proofs.misplaced.Reads as reads
-use Rattle.tables.proofs.misplaced.Lts as lts
 
 mul-u : tie.Need-mul-u
 mul-u c = search needs

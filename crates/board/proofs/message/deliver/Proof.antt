@@ -1,15 +1,11 @@
 -- `deliver` meets its contract: the message is refused, or taken. Assumes nothing.
 use borrow.Author.Needs.{needs}
-use mathlib.Core.Path.{_≡_, refl, sym, _∙_}
+use mathlib.Core.Path.{_≡_, sym, _∙_}
 use native.Mathlib.Omega.{arith}
 use Rattle.model.specs.Layout.{lent}
 use Rattle.board.proofs.Takes.{deliver-refused}
 use Rattle.board.proofs.message.deliver.Statement.{statement}
 use Rattle.board.proofs.message.deliver.Tie as tie
-use Rattle.board.proofs.message.deliver.Reads as reads
-use Rattle.board.proofs.message.deliver.Lts as lts
-use Rattle.board.proofs.message.take_message.Reads as take-message-reads
-use Rattle.refusals.proofs.message_number.Reads as message-number-reads
 
 message-number-requires : tie.Need-message-number-requires
 message-number-requires c κs = search needs

@@ -1,15 +1,10 @@
 -- `take_message` meets its contract: the pairs after the message, its stamp, and the index of the new pairs. Assumes nothing.
 use borrow.Author.Needs.{needs}
-use mathlib.Core.Path.{_≡_, refl, sym, ap, _∙_, subst}
 use native.Mathlib.Omega.{arith}
 use Rattle.model.specs.Layout.{lent}
 use Rattle.board.proofs.Takes.{take-valid, take-pairs, take-long, take-stamp, next-pairs, take-done}
 use Rattle.board.proofs.message.take_message.Statement.{statement}
 use Rattle.board.proofs.message.take_message.Tie as tie
-use Rattle.board.proofs.message.take_message.Reads as reads
-use Rattle.board.proofs.message.take_message.Lts as lts
-use Rattle.levels.proofs.fill_index.Reads as fill-index-reads
-use Rattle.pairs.proofs.change.Reads as change-reads
 
 change-requires : tie.Need-change-requires
 change-requires c κs = let s = c .before .before .before .before .before .before .before in
