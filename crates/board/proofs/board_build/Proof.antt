@@ -1,11 +1,10 @@
 -- `board_build` meets its contract: it refuses, or stamps the pairs, fills the index and zeroes the tails. Assumes nothing.
 use borrow.Author.Needs.{needs}
-use Prim.Native.Nat.{_-_}
 use mathlib.Core.Path.{_≡_, sym, _∙_}
 use native.Mathlib.Omega.{arith}
 use Rattle.model.specs.Layout.{lent}
 use Rattle.pairs.proofs.Place.{product-small}
-use Rattle.board.proofs.Builds.{build-refused, build-table, build-fits, build-pairs, build-range, build-done}
+use Rattle.board.proofs.Builds.{build-refused, build-table, build-fits, build-pairs, build-done}
 use Rattle.board.proofs.board_build.Statement.{statement}
 use Rattle.board.proofs.board_build.Tie as tie
 
@@ -28,11 +27,11 @@ returns : tie.Need-returns
 returns c = let a = c .before .before .before .before .before .before .before .before .before .before .args in
     build-refused (lent (a .head) (a .operators .now) (a .rides .now) (a .stamps .now) (a .index .now)) (a .start) _ (c .before .build-number .ensures) (omega arith)
 
-cast-n : tie.Need-cast-n
-cast-n c = search needs
+cast-places : tie.Need-cast-places
+cast-places c = search needs
 
-cast-m : tie.Need-cast-m
-cast-m c = search needs
+cast-places-2 : tie.Need-cast-places-2
+cast-places-2 c = search needs
 
 mul-places : tie.Need-mul-places
 mul-places c = let a = c .before .before .before .before .before .before .before .before .before .before .before .before .args in
@@ -45,46 +44,33 @@ mul-places c = let a = c .before .before .before .before .before .before .before
 cast-pairs : tie.Need-cast-pairs
 cast-pairs c = search needs
 
-forget-requires : tie.Need-forget-requires
-forget-requires c κs = let a = c .before .before .before .before .before .before .before .before .before .before .before .before .before .before .args in
+fill-requires : tie.Need-fill-requires
+fill-requires c κs = let a = c .before .before .before .before .before .before .before .before .before .before .before .before .before .before .before .before .args in
     let b = lent (a .head) (a .operators .now) (a .rides .now) (a .stamps .now) (a .index .now) in
-    let q = c .before .before .before .before .before .build-number in
+    let q = c .before .before .before .before .before .before .before .build-number in
     let none = sym (q .ensures) ∙ (let z : q .result ≡ 0 = omega arith in z) in
-    let t = build-table b (a .start) none in
-    t .stamps
-
-stamp-pairs-requires : tie.Need-stamp-pairs-requires
-stamp-pairs-requires c κs = let a = c .before .before .before .before .before .before .before .before .before .before .before .before .before .before .before .before .before .before .before .before .args in
-    let b = lent (a .head) (a .operators .now) (a .rides .now) (a .stamps .now) (a .index .now) in
-    let q = c .before .before .before .before .before .before .before .before .before .before .before .build-number in
-    let none = sym (q .ensures) ∙ (let z : q .result ≡ 0 = omega arith in z) in
-    let t = build-table b (a .start) none in
-    let p = build-pairs b (a .start) none in
-    ((p .operators-long, p .rides-long, omega (arith, t .stamps), build-range b (a .start) none), c .before .before .before .before .before .forget .ensures .0)
+    (build-pairs b (a .start) none, build-table b (a .start) none .stamps)
 
 fill-index-requires : tie.Need-fill-index-requires
-fill-index-requires c κs = let a = c .before .before .before .before .before .before .before .before .before .before .before .before .before .before .before .before .before .before .before .before .before .before .before .before .before .before .args in
+fill-index-requires c κs = let a = c .before .before .before .before .before .before .before .before .before .before .before .before .before .before .before .before .before .before .before .before .before .before .args in
+    let b = lent (a .head) (a .operators .now) (a .rides .now) (a .stamps .now) (a .index .now) in
+    let q = c .before .before .before .before .before .before .before .before .before .before .before .before .before .build-number in
+    let none = sym (q .ensures) ∙ (let z : q .result ≡ 0 = omega arith in z) in
+    (build-pairs b (a .start) none, build-table b (a .start) none .index)
+
+clear-tail-requires : tie.Need-clear-tail-requires
+clear-tail-requires c κs = let a = c .before .before .before .before .before .before .before .before .before .before .before .before .before .before .before .before .before .before .before .before .before .before .before .before .before .before .args in
     let b = lent (a .head) (a .operators .now) (a .rides .now) (a .stamps .now) (a .index .now) in
     let q = c .before .before .before .before .before .before .before .before .before .before .before .before .before .before .before .before .before .build-number in
     let none = sym (q .ensures) ∙ (let z : q .result ≡ 0 = omega arith in z) in
-    let t = build-table b (a .start) none in
-    (build-pairs b (a .start) none, t .index)
+    (build-fits b (a .start) none, build-table b (a .start) none .operators)
 
-clear-tail-requires : tie.Need-clear-tail-requires
-clear-tail-requires c κs = let a = c .before .before .before .before .before .before .before .before .before .before .before .before .before .before .before .before .before .before .before .before .before .before .before .before .before .before .before .before .before .before .args in
+clear-tail-requires-2 : tie.Need-clear-tail-requires-2
+clear-tail-requires-2 c κs = let a = c .before .before .before .before .before .before .before .before .before .before .before .before .before .before .before .before .before .before .before .before .before .before .before .before .before .before .before .before .before .before .args in
     let b = lent (a .head) (a .operators .now) (a .rides .now) (a .stamps .now) (a .index .now) in
     let q = c .before .before .before .before .before .before .before .before .before .before .before .before .before .before .before .before .before .before .before .before .before .build-number in
     let none = sym (q .ensures) ∙ (let z : q .result ≡ 0 = omega arith in z) in
-    let t = build-table b (a .start) none in
-    (build-fits b (a .start) none, t .operators)
-
-clear-tail-requires-2 : tie.Need-clear-tail-requires-2
-clear-tail-requires-2 c κs = let a = c .before .before .before .before .before .before .before .before .before .before .before .before .before .before .before .before .before .before .before .before .before .before .before .before .before .before .before .before .before .before .before .before .before .before .args in
-    let b = lent (a .head) (a .operators .now) (a .rides .now) (a .stamps .now) (a .index .now) in
-    let q = c .before .before .before .before .before .before .before .before .before .before .before .before .before .before .before .before .before .before .before .before .before .before .before .before .before .build-number in
-    let none = sym (q .ensures) ∙ (let z : q .result ≡ 0 = omega arith in z) in
-    let t = build-table b (a .start) none in
-    (build-fits b (a .start) none, t .rides)
+    (build-fits b (a .start) none, build-table b (a .start) none .rides)
 
 same-length-5 : tie.Need-same-length-5
 same-length-5 c = search needs
@@ -99,13 +85,11 @@ same-length-8 : tie.Need-same-length-8
 same-length-8 c = search needs
 
 returns-2 : tie.Need-returns-2
-returns-2 c = let a = c .before .before .before .before .before .before .before .before .before .before .before .before .before .before .before .before .before .before .before .before .before .before .before .before .before .before .before .before .before .before .before .before .before .before .before .before .before .args in
+returns-2 c = let a = c .before .before .before .before .before .before .before .before .before .before .before .before .before .before .before .before .before .before .before .before .before .before .before .before .before .before .before .before .before .before .before .before .before .args in
     let b = lent (a .head) (a .operators .now) (a .rides .now) (a .stamps .now) (a .index .now) in
-    let q = c .before .before .before .before .before .before .before .before .before .before .before .before .before .before .before .before .before .before .before .before .before .before .before .before .before .before .before .before .build-number in
-    let none = sym (q .ensures) ∙ (let z : q .result ≡ 0 = omega (arith, c .before .before .before .before .before .before .before .before .before .before .before .before .before .before .before .before .before .before .before .before .before .before .before .before .before .before .before .if1 .left) in z) in
-    let t = build-table b (a .start) none in
-    let z = c .before .before .before .before .before .before .before .before .before .before .before .before .before .before .before .before .before .before .before .before .before .before .forget in
-    build-done b (a .start) none _ _ (omega arith) (z .ensures .1) (c .before .before .before .before .before .before .before .before .before .before .before .before .before .before .before .before .stamp-pairs .ensures) _ _ _ (c .before .before .before .before .before .before .clear-tail .ensures) (c .before .before .clear-tail2 .ensures) (c .before .before .before .before .before .before .before .before .before .before .fill-index .ensures .0)
+    let q = c .before .before .before .before .before .before .before .before .before .before .before .before .before .before .before .before .before .before .before .before .before .before .before .before .build-number in
+    let none = sym (q .ensures) ∙ (let z : q .result ≡ 0 = omega (arith, c .before .before .before .before .before .before .before .before .before .before .before .before .before .before .before .before .before .before .before .before .before .before .before .if1 .left) in z) in
+    build-done b (a .start) none _ _ _ _ (c .before .before .before .before .before .before .clear-tail .ensures) (c .before .before .clear-tail2 .ensures) (c .before .before .before .before .before .before .before .before .before .before .before .before .before .before .before .before .fill .ensures) (c .before .before .before .before .before .before .before .before .before .before .fill-index .ensures .0)
 
 pub board-build-spec : {M : Type 1} → statement M
 board-build-spec =
@@ -117,12 +101,11 @@ board-build-spec =
     same-length-3
     same-length-4
     returns
-    cast-n
-    cast-m
+    cast-places
+    cast-places-2
     mul-places
     cast-pairs
-    forget-requires
-    stamp-pairs-requires
+    fill-requires
     fill-index-requires
     clear-tail-requires
     clear-tail-requires-2

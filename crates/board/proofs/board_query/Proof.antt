@@ -64,34 +64,34 @@ mul-at c = let a = c .before .before .before .before .before .before .before .be
     let none = sym (q .ensures) ∙ (let z : q .result ≡ 0 = omega arith in z) in
     omega (arith, row-end (a .head) (a .index .now) (a .marks .now) (a .alpha) (a .beta) none (omega arith))
 
-add-query-row : tie.Need-add-query-row
-add-query-row c = let a = c .before .before .before .before .before .before .before .before .before .args in
+add-mark-row : tie.Need-add-mark-row
+add-mark-row c = let a = c .before .before .before .before .before .before .before .before .before .args in
     let q = c .before .before .before .before .before .query-number in
     let none = sym (q .ensures) ∙ (let z : q .result ≡ 0 = omega arith in z) in
     omega (arith, row-end (a .head) (a .index .now) (a .marks .now) (a .alpha) (a .beta) none (omega arith))
 
-mul-query-row : tie.Need-mul-query-row
-mul-query-row c = let a = c .before .before .before .before .before .before .before .before .before .args in
+mul-mark-row : tie.Need-mul-mark-row
+mul-mark-row c = let a = c .before .before .before .before .before .before .before .before .before .args in
     let q = c .before .before .before .before .before .query-number in
     let none = sym (q .ensures) ∙ (let z : q .result ≡ 0 = omega arith in z) in
     let e = row-end (a .head) (a .index .now) (a .marks .now) (a .alpha) (a .beta) none (omega arith) in
     let k = query-long (a .head) (a .index .now) (a .marks .now) (a .alpha) (a .beta) none in
     omega (arith, index-small (a .alpha - 1) (mark-places (a .head)) (omega (arith, k .1)) (omega (arith, k .0, k .1)))
 
-sub-query-row : tie.Need-sub-query-row
-sub-query-row c = search needs
+sub-mark-row : tie.Need-sub-mark-row
+sub-mark-row c = search needs
 
-part-query-row-start : tie.Need-part-query-row-start
-part-query-row-start c = search needs
+part-mark-row-start : tie.Need-part-mark-row-start
+part-mark-row-start c = search needs
 
-part-query-row-end : tie.Need-part-query-row-end
-part-query-row-end c = let a = c .before .before .before .before .before .before .before .before .before .args in
+part-mark-row-end : tie.Need-part-mark-row-end
+part-mark-row-end c = let a = c .before .before .before .before .before .before .before .before .before .args in
     let q = c .before .before .before .before .before .query-number in
     let none = sym (q .ensures) ∙ (let z : q .result ≡ 0 = omega arith in z) in
     row-end (a .head) (a .index .now) (a .marks .now) (a .alpha) (a .beta) none (omega arith)
 
-query-row-requires : tie.Need-query-row-requires
-query-row-requires c κs = let a = c .before .before .before .before .before .before .before .before .before .before .before .args in
+mark-row-requires : tie.Need-mark-row-requires
+mark-row-requires c κs = let a = c .before .before .before .before .before .before .before .before .before .before .before .args in
     let q = c .before .before .before .before .before .before .before .query-number in
     let none = sym (q .ensures) ∙ (let z : q .result ≡ 0 = omega arith in z) in
     let e = row-long (a .head) (a .index .now) (a .marks .now) (a .alpha) (a .beta) none (omega arith) in
@@ -105,7 +105,7 @@ returns-3 : tie.Need-returns-3
 returns-3 c = let a = c .before .before .before .before .before .before .before .before .before .before .before .before .before .before .args in
     let q = c .before .before .before .before .before .before .before .before .before .before .query-number in
     let none = sym (q .ensures) ∙ (let z : q .result ≡ 0 = omega arith in z) in
-    query-row-done (a .head) (a .index .now) (a .marks .now) (a .alpha) (a .beta) none (omega arith) _ _ (omega arith) (c .before .before .query-row .ensures)
+    query-row-done (a .head) (a .index .now) (a .marks .now) (a .alpha) (a .beta) none (omega arith) _ _ (omega arith) (c .before .before .mark-row .ensures)
 
 pub board-query-spec : {M : Type 1} → statement M
 board-query-spec =
@@ -125,11 +125,11 @@ board-query-spec =
     returns-2
     sub-at
     mul-at
-    add-query-row
-    mul-query-row
-    sub-query-row
-    part-query-row-start
-    part-query-row-end
-    query-row-requires
+    add-mark-row
+    mul-mark-row
+    sub-mark-row
+    part-mark-row-start
+    part-mark-row-end
+    mark-row-requires
     same-length-3
     returns-3)

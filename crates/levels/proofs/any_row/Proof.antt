@@ -1,6 +1,5 @@
 -- `levels::any_row` meets its contract: above the largest degree of an operator every level is 0. Assumes nothing.
 use borrow.Author.Needs.{needs}
-use Prim.Native.Nat.{_-_}
 use native.Mathlib.Omega.{arith}
 use Rattle.levels.specs.Row.{table-graph}
 use Rattle.levels.proofs.Rows.{zero-row}

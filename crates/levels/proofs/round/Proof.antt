@@ -1,6 +1,5 @@
 -- `levels::round` meets its contract: both sweeps remove only who is outside the cover. Assumes nothing.
 use borrow.Author.Needs.{needs}
-use Prim.Native.Nat.{_-_}
 use native.Mathlib.Omega.{arith}
 use lib.ListN.{length}
 use Rattle.levels.proofs.Raising.{rides-part, operators-part, rounded}

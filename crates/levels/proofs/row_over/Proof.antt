@@ -1,6 +1,5 @@
 -- `levels::row_over` meets its contract: the tables hold the clearances, and one row is filled from them. Assumes nothing.
 use borrow.Author.Needs.{needs}
-use Prim.Native.Nat.{_-_}
 use mathlib.Core.Path.{_∙_}
 use native.Mathlib.Omega.{arith}
 use Rattle.levels.proofs.Filled.{range-operators, range-rides, filled-tables, filled-row}

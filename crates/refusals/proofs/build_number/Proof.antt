@@ -4,7 +4,6 @@ use mathlib.Core.Path.{subst}
 use mathlib.Core.Bool.{Bool}
 use lib.Dec.{T}
 use Rattle.model.specs.Refusal.{lowest-number, table-cases}
-use Prim.Native.Nat.{_-_}
 use mathlib.Core.Path.{sym, ap, _∙_}
 use native.Mathlib.Omega.{arith}
 use Rattle.model.specs.Layout.{lent}

@@ -1,6 +1,5 @@
 -- `refusals::peel_number` meets its contract: 1 to 5 first, then 11 and 12. Assumes nothing.
 use borrow.Author.Needs.{needs}
-use Prim.Native.Nat.{_-_}
 use mathlib.Core.Path.{sym, ap, _∙_, subst}
 use mathlib.Core.Bool.{Bool}
 use native.Mathlib.Omega.{arith}

@@ -1,6 +1,5 @@
 -- `refusals::query_number` meets its contract: its numbers in ascending order. Assumes nothing.
 use borrow.Author.Needs.{needs}
-use Prim.Native.Nat.{_-_}
 use native.Mathlib.Omega.{arith}
 use Rattle.refusals.proofs.Chain.{product-fits, query-lowest}
 use Rattle.refusals.proofs.query_number.Statement.{statement}

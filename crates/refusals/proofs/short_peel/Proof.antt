@@ -1,6 +1,5 @@
 -- `refusals::short_peel` meets its contract: 3 of a peel, part by part. Assumes nothing.
 use borrow.Author.Needs.{needs}
-use Prim.Native.Nat.{_-_}
 use native.Mathlib.Omega.{arith}
 use Rattle.refusals.proofs.Chain.{product-fits, peel-operators, peel-rides, peel-marks}
 use Rattle.refusals.proofs.short_peel.Statement.{statement}

@@ -1,4 +1,4 @@
--- `board::mark_levels` meets its contract. The loop's invariant: the marks below i are those of their levels, and the count is how many of them are 1. Assumes nothing.
+-- `queries::mark_levels` meets its contract. The loop's invariant: the marks below i are those of their levels, and the count is how many of them are 1. Assumes nothing.
 use borrow.Author.Needs.{needs}
 use Prim.Native.Nat.{ℕ, suc, _≤_, _<_, _-_}
 use mathlib.Core.Path.{_≡_, refl, sym, ap, _∙_, subst}
@@ -8,9 +8,9 @@ use lib.Dec.{ltb}
 use Rattle.model.specs.Count.{bit, count}
 use Rattle.model.proofs.Count.{bit-le, count-le, count-more, count-none}
 use Rattle.model.proofs.Store.{stored}
-use Rattle.board.specs.Words.{Marked}
-use Rattle.board.proofs.mark_levels.Statement.{statement}
-use Rattle.board.proofs.mark_levels.Tie as tie
+use Rattle.queries.specs.Marks.{Marked}
+use Rattle.queries.proofs.mark_levels.Statement.{statement}
+use Rattle.queries.proofs.mark_levels.Tie as tie
 
 abbrev Inv-loop : tie.InvT-loop
 Inv-loop levels beta marks₀ n below count₀ i₀ marks count i =

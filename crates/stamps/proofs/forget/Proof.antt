@@ -1,4 +1,4 @@
--- `board::forget` meets its contract. The loop's invariant: the first k stamps are zero, those past the places are as they came. Assumes nothing.
+-- `stamps::forget` meets its contract. The loop's invariant: the first k stamps are zero, those past the places are as they came. Assumes nothing.
 use borrow.Author.Needs.{needs}
 use Prim.Native.Nat.{ℕ, _≤_, _<_, _-_}
 use mathlib.Core.Path.{_≡_, refl, _∙_}
@@ -6,8 +6,8 @@ use native.Mathlib.Omega.{arith}
 use lib.ListN.{length, getD, drop, length-set}
 use lib.Seq.{drop-set-lt}
 use Rattle.model.proofs.Store.{stored}
-use Rattle.board.proofs.forget.Statement.{statement}
-use Rattle.board.proofs.forget.Tie as tie
+use Rattle.stamps.proofs.forget.Statement.{statement}
+use Rattle.stamps.proofs.forget.Tie as tie
 
 abbrev Inv-loop : tie.InvT-loop
 Inv-loop stamps₀ places k₀ stamps k =

@@ -1,9 +1,9 @@
--- `board::query_row` meets its contract. Assumes nothing.
+-- `queries::mark_row` meets its contract. Assumes nothing.
 use borrow.Author.Needs.{needs}
 use native.Mathlib.Omega.{arith}
-use Rattle.board.proofs.Queries.{part-long, part-bits, rides-le, row-marked}
-use Rattle.board.proofs.query_row.Statement.{statement}
-use Rattle.board.proofs.query_row.Tie as tie
+use Rattle.queries.proofs.Marks.{part-long, part-bits, rides-le, row-marked}
+use Rattle.queries.proofs.mark_row.Statement.{statement}
+use Rattle.queries.proofs.mark_row.Tie as tie
 
 sub-mark-levels : tie.Need-sub-mark-levels
 sub-mark-levels c = search needs
@@ -50,8 +50,8 @@ returns c = let s = c .before .before .before .before .before .before .before .b
     let v = c .before .before .before .before .before .mark-levels in
     row-marked (a .row .now) (a .marks .now) (a .n) (a .beta) (s .pre .0) (s .pre .1) (v .result) (v .last .1 .1 .0) (v .ensures) (omega arith) (c .count-marks .result) (c .count-marks .ensures)
 
-pub query-row-spec : {M : Type 1} → statement M
-query-row-spec =
+pub mark-row-spec : {M : Type 1} → statement M
+mark-row-spec =
     tie.close
     (tie.spec
     sub-mark-levels

@@ -1,4 +1,4 @@
--- `board::stamp_pairs` meets its contract. The loop's invariant: the stamps are those of the first k pairs. Assumes nothing.
+-- `stamps::stamp_pairs` meets its contract. The loop's invariant: the stamps are those of the first k pairs. Assumes nothing.
 use borrow.Author.Needs.{needs}
 use Prim.Native.Nat.{ℕ, _+_, _*_, _≤_, _<_, _-_}
 use mathlib.Core.Path.{_≡_, refl, sym, ap, _∙_}
@@ -7,9 +7,9 @@ use lib.ListN.{length, getD, drop, length-set}
 use lib.Seq.{drop-set-lt}
 use Rattle.model.specs.Layout.{listed}
 use Rattle.tables.proofs.Place.{place-lt, table-more, listed-none}
-use Rattle.board.specs.Words.{stamp-of}
-use Rattle.board.proofs.stamp_pairs.Statement.{statement}
-use Rattle.board.proofs.stamp_pairs.Tie as tie
+use Rattle.stamps.specs.Stamps.{stamp-of}
+use Rattle.stamps.proofs.stamp_pairs.Statement.{statement}
+use Rattle.stamps.proofs.stamp_pairs.Tie as tie
 
 abbrev Inv-loop : tie.InvT-loop
 Inv-loop operators rides pairs n m start stamps₀ k₀ stamps k =

@@ -1,0 +1,21 @@
+-- The marks of one row of the index, word by word.
+use mathlib.Core.Path.{_≡_}
+use mathlib.Core.List.{List}
+use Prim.Native.Nat.{ℕ, _+_, _-_, _<_}
+use lib.Dec.{leb}
+use lib.ListN.{length, getD, drop}
+use Rattle.model.specs.declared.Counts.{Counts}
+use Rattle.model.specs.Count.{bit, count}
+
+-- marks of a row's levels: 1 exactly if the level is at least β, and how many are 1
+pub record Marked (levels : List ℕ) (β r : ℕ) (marks : List ℕ) : Type 0 where
+  pub marks-are : (i : ℕ) → i < length levels → getD marks i 0 ≡ bit (leb β (getD levels i 0))
+  pub counted : r ≡ count (length levels) (λ i. leb β (getD levels i 0))
+
+-- marks and counts of one row of n operators and the rides; marks past the row are as they came
+pub record RowMarked (row : List ℕ) (n β : ℕ) (marks : List ℕ) (r : Counts) (marks′ : List ℕ) : Type 0 where
+  pub code : r .code ≡ 0
+  pub operators : r .operators ≡ count n (λ i. leb β (getD row i 0))
+  pub rides : r .rides ≡ count (length row - n) (λ i. leb β (getD row (n + i) 0))
+  pub marks-are : (i : ℕ) → i < length row → getD marks′ i 0 ≡ bit (leb β (getD row i 0))
+  pub tail : drop (length row) marks′ ≡ drop (length row) marks

@@ -1,0 +1,16 @@
+-- The stamps of listed pairs, word by word.
+use mathlib.Core.Path.{_≡_}
+use mathlib.Core.List.{List}
+use mathlib.Core.Bool.{Bool, true, false}
+use Prim.Native.Nat.{ℕ, _+_, _*_, _<_}
+use lib.ListN.{getD, drop}
+
+-- the stamp of a pair after a build: the starting stamp where it is listed, else 0
+abbrev pub stamp-of : ℕ → Bool → ℕ
+stamp-of start true = start
+stamp-of start false = 0
+
+-- stamps of n operators and m rides, by whether a pair is listed; stamps past them are as they came
+pub record Stamped (is-listed : ℕ → ℕ → Bool) (n m start : ℕ) (old new : List ℕ) : Type 0 where
+  pub stamps : (u v : ℕ) → u < n → v < m → getD new (u * m + v) 0 ≡ stamp-of start (is-listed u v)
+  pub tail : drop (n * m) new ≡ drop (n * m) old
