@@ -2,7 +2,6 @@
 
 use crate::numbers::Numbers;
 use differential::guarded::{End, Region};
-use differential::Proved;
 use reference::frames::{Board, Reference};
 use reference::{Answer, Counts, Head, Message, Peeled};
 use std::fmt::Debug;
@@ -86,15 +85,18 @@ impl Totals {
     }
 }
 
-pub struct Compared {
+/// A library, and what was compared of it so far.
+pub struct Compared<B> {
+    library: B,
     regions: Regions,
     ends: Numbers,
     pub totals: Totals,
 }
 
-impl Compared {
-    pub fn new(seed: u64) -> Compared {
+impl<B: Board> Compared<B> {
+    pub fn new(library: B, seed: u64) -> Compared<B> {
         Compared {
+            library,
             regions: Regions {
                 head: Region::new(1),
                 operators: Region::new(PAIRS_MOST),
@@ -135,7 +137,7 @@ impl Compared {
         let rides = r.rides.lend_mut(&before.rides, ends[1]);
         let stamps = r.stamps.lend_mut(&before.stamps, ends[2]);
         let index = r.index.lend_mut(&before.index, ends[3]);
-        let found = Proved.build(lent.head, operators, rides, start, stamps, index);
+        let found = self.library.build(lent.head, operators, rides, start, stamps, index);
         totals.builds += 1;
         totals.number(lent.head, found);
         totals.same("build", found, expected);
@@ -154,7 +156,7 @@ impl Compared {
         let (r, totals) = (&mut self.regions, &mut self.totals);
         let index = r.index.lend(&lent.index, ends[0]);
         let library = r.marks.lend_mut(&before, ends[1]);
-        let found = Proved.query(lent.head, index, alpha, beta, library);
+        let found = self.library.query(lent.head, index, alpha, beta, library);
         totals.queries += 1;
         totals.number(lent.head, found.code);
         totals.same("query", found, expected);
@@ -172,7 +174,7 @@ impl Compared {
         let operators = r.operators.lend(&lent.operators, ends[0]);
         let rides = r.rides.lend(&lent.rides, ends[1]);
         let library = r.marks.lend_mut(&before, ends[2]);
-        let found = Proved.peel(lent.head, operators, rides, library, alpha, beta, steps);
+        let found = self.library.peel(lent.head, operators, rides, library, alpha, beta, steps);
         totals.peels += 1;
         totals.number(lent.head, found.code);
         totals.settled += (found.code == 0 && found.settled == 1) as u64;
@@ -196,7 +198,7 @@ impl Compared {
         let rides = r.rides.lend_mut(&before.rides, ends[2]);
         let stamps = r.stamps.lend_mut(&before.stamps, ends[3]);
         let index = r.index.lend_mut(&before.index, ends[4]);
-        let found = Proved.message(&mut head[0], operators, rides, stamps, index, one);
+        let found = self.library.message(&mut head[0], operators, rides, stamps, index, one);
         totals.messages += 1;
         totals.number(lent.head, found.code);
         totals.same("message", found, expected);
@@ -222,7 +224,7 @@ impl Compared {
         let index = r.index.lend_mut(&before.index, ends[4]);
         let messages = r.messages.lend(list, ends[5]);
         let library = r.answers.lend_mut(&answers_before, ends[6]);
-        let found = Proved.messages(&mut head[0], operators, rides, stamps, index, messages, library);
+        let found = self.library.messages(&mut head[0], operators, rides, stamps, index, messages, library);
         totals.lists += 1;
         totals.listed_messages += list.len() as u64;
         totals.number(lent.head, found);

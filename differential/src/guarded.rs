@@ -84,3 +84,42 @@ impl<T: Copy> Region<T> {
         changed(&all[..from]) == 0 && changed(&all[to..]) == 0
     }
 }
+
+#[cfg(test)]
+mod tests {
+    use super::{End, Region};
+    use std::os::unix::process::ExitStatusExt;
+    use std::process::Command;
+
+    const SEGMENTATION_FAULT: i32 = 11;
+
+    #[test]
+    fn what_is_written_beside_a_part_is_found() {
+        let mut region = Region::new(10);
+        for (end, place) in [(End::Low, 3), (End::High, -1)] {
+            let part = region.lend_mut(&[1u16, 2, 3], end).as_mut_ptr();
+            assert!(region.is_intact());
+            unsafe { *part.offset(place) = 0 };
+            assert!(!region.is_intact());
+        }
+    }
+
+    /// In a process of its own: writes a word past the end that a part lies against.
+    #[test]
+    fn past_the_end_stops_the_program() {
+        let name = "guarded::tests::past_the_end_stops_the_program";
+        let ends = [("low", End::Low, -1), ("high", End::High, 3)];
+        if let Ok(wanted) = std::env::var("WRITE_PAST") {
+            let (_, end, place) = ends.into_iter().find(|(word, ..)| *word == wanted).unwrap();
+            let mut region = Region::new(10);
+            let part = region.lend_mut(&[1u16, 2, 3], end).as_mut_ptr();
+            unsafe { part.offset(place).write_volatile(0) };
+            return;
+        }
+        for (word, ..) in ends {
+            let program = std::env::current_exe().unwrap();
+            let run = Command::new(program).args([name, "--exact"]).env("WRITE_PAST", word).output().unwrap();
+            assert_eq!(run.status.signal(), Some(SEGMENTATION_FAULT), "{word}");
+        }
+    }
+}

@@ -1,10 +1,13 @@
 //! Random sequences of the five calls on the library and on the reference, for so many seconds, from a seed.
 
 mod compared;
+#[cfg(test)]
+mod faults;
 mod numbers;
 mod sequences;
 
 use compared::{Compared, Totals};
+use differential::Proved;
 use numbers::Numbers;
 use sequences::{delivery, sequence, Size};
 use std::time::{Duration, Instant, SystemTime, UNIX_EPOCH};
@@ -35,7 +38,7 @@ fn main() {
     println!("seed {seed}, {seconds} seconds");
 
     let mut numbers = Numbers::new(seed);
-    let mut compared = Compared::new(seed);
+    let mut compared = Compared::new(Proved, seed);
     let (begin, mut told) = (Instant::now(), Instant::now());
     while begin.elapsed() < Duration::from_secs(seconds) && compared.totals.differences < 10 {
         match numbers.below(200) {

@@ -2,6 +2,7 @@
 
 use crate::compared::{Compared, Lent, INDEX_MOST, LIST_MOST, MARKS_MOST, PAIRS_MOST};
 use crate::numbers::Numbers;
+use reference::frames::Board;
 use reference::{Head, Message, GRANT, WITHDRAWAL};
 use std::collections::BTreeMap;
 
@@ -212,7 +213,7 @@ fn message(numbers: &mut Numbers, head: Head) -> Message {
 }
 
 /// A board that is built, and then queried, peeled and sent messages; some calls are given damaged input.
-pub fn sequence(compared: &mut Compared, numbers: &mut Numbers, size: Size) {
+pub fn sequence<B: Board>(compared: &mut Compared<B>, numbers: &mut Numbers, size: Size) {
     let (n, m) = size.numbers(numbers);
     let pairs = table(numbers, n, m);
     let mut board = lent(numbers, n, m, &pairs);
@@ -270,7 +271,7 @@ pub fn sequence(compared: &mut Compared, numbers: &mut Numbers, size: Size) {
 
 /// Gives messages to a board in this order, by message calls and message lists, now and then by a call that is lent too
 /// short a part.
-fn deliver(compared: &mut Compared, numbers: &mut Numbers, board: &mut Lent, messages: &[Message]) {
+fn deliver<B: Board>(compared: &mut Compared<B>, numbers: &mut Numbers, board: &mut Lent, messages: &[Message]) {
     let mut rest = messages;
     while !rest.is_empty() {
         let count = 1 + numbers.below(rest.len().min(6));
@@ -294,7 +295,7 @@ fn deliver(compared: &mut Compared, numbers: &mut Numbers, board: &mut Lent, mes
 
 /// Demand 3 on the library itself: the same messages in two orders, one of them with repeats, leave the same board, the
 /// one that is worked out from the latest message of each pair.
-pub fn delivery(compared: &mut Compared, numbers: &mut Numbers, size: Size) {
+pub fn delivery<B: Board>(compared: &mut Compared<B>, numbers: &mut Numbers, size: Size) {
     let (n, m) = size.numbers(numbers);
     let pairs = table(numbers, n, m);
     let mut built = lent(numbers, n, m, &pairs);
