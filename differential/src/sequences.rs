@@ -162,7 +162,7 @@ fn limit(numbers: &mut Numbers, size: u16) -> u16 {
         0 => 0,
         1 => numbers.word(),
         2 => size.saturating_add(1),
-        _ => 1 + numbers.below(size as usize + 1) as u16,
+        _ => 1 + numbers.below((size as usize + 1).min(65535)) as u16,
     }
 }
 
