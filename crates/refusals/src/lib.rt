@@ -84,7 +84,7 @@ fn lowest(applies: bool, number: u16, after: u16) -> u16
     after
 }
 
-// 1 to 3 and 11. All are tested, without a branch: a query is short, and its loop starts behind one test.
+// 1 to 3 and 11. All are tested, without a branch between them (docs/DECISIONS.md).
 pub fn query_number(head: Head, index: &[u16], alpha: u16, beta: u16, marks: &[u16]) -> u16
     ensures { λ r. ⌜ r ≡ query-refusal head (now (index .entry)) alpha beta (now (marks .entry)) ⌝ }
 {
