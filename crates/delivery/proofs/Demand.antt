@@ -11,7 +11,7 @@ use Rattle.model.specs.Layout.{Board}
 use Rattle.model.specs.Refusal.{build-refusal}
 use Rattle.delivery.specs.Calls.{Call, run, built-board, returned, case, delivered}
 use Rattle.delivery.specs.Book.{valid, entries, grants, book, written}
-use Rattle.delivery.specs.Demand.{BoardIsBook, OnlyThree, AnyOrder, Demand3}
+use Rattle.delivery.specs.Demand.{BoardIsBook, OnlyThree, BookValid, AnyOrder, Demand3}
 use Rattle.delivery.proofs.Latest.{test-valid, AllValid, valid-append, latest-laws}
 use Rattle.delivery.proofs.Run.{valid-entries, run-written, case-written, returned-short}
 use Rattle.delivery.proofs.Build.{table, valid-grants, built-written, grants-same}
@@ -30,7 +30,7 @@ module _ (b : Board) (start : ℕ) (calls : List Call) (e : build-refusal b star
   abbrev h : Head
   h = b .head
 
-  valid-book : AllValid h (book h (b .operators) (b .rides) start calls)
+  pub valid-book : AllValid h (book h (b .operators) (b .rides) start calls)
   unfolding book
   valid-book = valid-append h (grants (h .pairs) (b .operators) (b .rides) start) (entries h calls) (valid-grants b start e) (valid-entries h calls)
 
@@ -56,6 +56,9 @@ only-three =
           ap (λ (x : Board). returned x c) (board-is-book b start calls e) ∙ returned-short (b .head) (t .few-operators) (t .few-rides) (book (b .head) (b .operators) (b .rides) start calls) c s;
     }
 
+pub book-valid : BookValid
+book-valid b start calls e m i = test-valid (b .head) m (valid-book b start calls e m i)
+
 -- one part of two lists joined to the same first list
 join-right : (xs ys zs : List Message) → ((m : Message) → List·Memᴰ m ys → List·Memᴰ m zs) → (m : Message) → List·Memᴰ m (xs ++ ys) → List·Memᴰ m (xs ++ zs)
 join-right xs ys zs f m i = elim (List·Memᴰ·append-cases xs i) [ inl j ↦ Memᴰ·append-left zs j | inr j ↦ Memᴰ·append-right xs (f m j) ]
@@ -79,6 +82,7 @@ demand-3 =
       board-is-book = board-is-book;
       only-three = only-three;
       latest-laws = latest-laws;
+      book-valid = book-valid;
       any-order = any-order;
       one-message = one-message;
       list-is-calls = list-is-calls;

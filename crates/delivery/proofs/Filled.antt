@@ -1,7 +1,7 @@
 -- Boards filled from clearances and stamps, lent with further words: 1 to 6 do not apply, and a taken message leaves one again. Assumes nothing.
 use mathlib.Core.Path.{_≡_, sym, ap, ap₂, _∙_, subst, subst₂}
 use mathlib.Core.Bool.{Bool}
-use mathlib.Core.List.{List, _++_, map}
+use mathlib.Core.List.{List, [], _++_, map}
 use Prim.Native.Nat.{ℕ, suc, _+_, _*_, _/_, _%_, _≤_, _<_}
 use native.Mathlib.Omega.{arith}
 use lib.Dec.{T, eqb}
@@ -12,19 +12,15 @@ use Rattle.model.specs.declared.Head.{Head}
 use Rattle.model.specs.declared.Message.{Message}
 use Rattle.model.specs.Count.{rows}
 use Rattle.model.specs.Graph.{Graph, nodes, level, index-of}
-use Rattle.model.specs.Layout.{Board, pair-places, index-places, over}
+use Rattle.model.specs.Layout.{Board, pair-places, index-places, over, sized, board-graph}
 use Rattle.model.specs.Message.{cleared-on, with-pair, pair-numbers, padded, board-of, graph-after, board-after}
 use Rattle.model.specs.Demand.{changed}
 use Rattle.model.proofs.Count.{length-rows, getD-rows, rows-ext}
 use Rattle.model.proofs.Level.{index-same}
-use Rattle.model.proofs.Pairs.{Pairs, rows-only, pairs-padded, pairs-listed, pairs-in-range, pairs-accepted, table-pairs, length-padded, pair-numbers-same}
+use Rattle.model.proofs.Pairs.{Pairs, rows-only, pairs-padded, pairs-listed, pairs-in-range, pairs-accepted, table-pairs, length-numbers, length-padded, pair-numbers-same, graph-append}
 use Rattle.model.proofs.Refusal.{Accepted, Valid}
 use Rattle.model.proofs.Taken.{by-pair, with-pair-same, with-pair-other, stamp-same, stamp-other}
 use Rattle.delivery.specs.Book.{filled}
-
--- the graph of the sizes of h with these clearances
-abbrev sized : Head → (ℕ → ℕ → Bool) → Graph
-sized h c = record { operators = h .operators; rides = h .rides; cleared = c }
 
 -- a board with further words behind its parts
 abbrev pub extend : Board → List ℕ → List ℕ → List ℕ → List ℕ → Board
@@ -61,6 +57,14 @@ module _ (h : Head) (c : ℕ → ℕ → Bool) (s : ℕ → ℕ → ℕ) where
 
   -- ---- as lent
 
+  -- further words change no clearance
+  pub graph-extend : (o r t i : List ℕ) → board-graph (extend (filled h c s) o r t i) ≡ board-graph (filled h c s)
+  unfolding filled
+  graph-extend o r t i =
+      let b : Board = filled h c s in
+      let fits : b .head .pairs ≤ pair-places h = length-numbers (sized h c) in
+      graph-append (b .head) (b .operators) (b .rides) o r (omega (arith, length-operators)) (omega (arith, length-rides))
+
   module _ (o r t i : List ℕ) where
     abbrev board : Board
     board = extend (filled h c s) o r t i
@@ -95,6 +99,13 @@ module _ (h : Head) (c : ℕ → ℕ → Bool) (s : ℕ → ℕ → ℕ) where
               let w = pairs-in-range (sized h c) (board .head .pairs) (board .operators) (board .rides) pairs-filled u v p in
               omega (arith, stamp-filled u v (w .0) (w .1), stamped u v (w .0) (w .1) (subst T (cleared-filled u v (w .0) (w .1)) p));
         }
+
+-- the index of such a board is that of the pairs that it lists
+pub index-filled : (h : Head) (c : ℕ → ℕ → Bool) (s : ℕ → ℕ → ℕ) → filled h c s .index ≡ index-of (board-graph (filled h c s))
+unfolding filled
+index-filled h c s =
+    index-same (board-graph (filled h c s)) c
+    (λ u v p q. ap (λ (g : Graph). g .cleared u v) (sym (graph-extend h c s [] [] [] [])) ∙ cleared-filled h c s [] [] [] [] u v p q)
 
 -- ---- boards with the same clearances and stamps
 

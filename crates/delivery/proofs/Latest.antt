@@ -201,7 +201,12 @@ module _ (h : Head) (es fs : List Message) (u v : ℕ) (es-valid : AllValid h es
       let w′ = back f (j .entry) (j .operator) (j .ride) in
       let q : rank e ≡ rank f = omega (arith, w .4, w′ .4, latest-rank h fs u v fs-valid f j (w .0) (w .1) (w .2) (w .3), latest-rank h es u v es-valid e i (w′ .0) (w′ .1) (w′ .2) (w′ .3)) in
       let k = same-rank h e f (es-valid e (i .entry)) (fs-valid f (j .entry)) q in
-      (ap (λ (x : ℕ). eqb x 1) (k .0), k .1)
+      let kind = k .0 in
+      let stamp = k .1 in
+      let operator = i .operator ∙ sym (j .operator) in
+      let ride = i .ride ∙ sym (j .ride) in
+      let same : e ≡ f = λ t. record { kind = kind t; operator = operator t; ride = ride t; stamp = stamp t } in
+      (ap (λ (x : Message). granted (some x)) same, ap (λ (x : Message). stamped (some x)) same)
 
   pub latest-same : Same (latest es u v) (latest fs u v)
   latest-same = same-is (latest es u v) (latest fs u v) (latest-is es u v) (latest-is fs u v)

@@ -6,14 +6,14 @@ use native.Mathlib.Omega.{arith}
 use lib.Dec.{eqb}
 use borrow.Author.Tests.{eq-eqb, ne-eqb}
 use Rattle.model.specs.declared.Message.{Message}
-use Rattle.model.specs.Layout.{Board}
+use Rattle.model.specs.Layout.{Board, board-graph}
 use Rattle.model.specs.Refusal.{message-refusal}
 use Rattle.model.specs.Message.{cleared-on, board-of, MessageOutcome, board-after, board-message}
 use Rattle.model.specs.Demand.{OneMove}
 use Rattle.model.proofs.Change.{one-pair}
 use Rattle.model.proofs.Refusal.{Valid, taken-none}
 use Rattle.model.proofs.Taken.{with-pair-same, with-pair-other, message-taken, cleared-after}
-use Rattle.delivery.specs.Demand.{board-graph, OneMessage}
+use Rattle.delivery.specs.Demand.{OneMessage}
 
 module _ (b : Board) (m : Message) (taken : message-refusal b m ≡ 0) where
   abbrev next : Board

@@ -9,7 +9,7 @@ use Rattle.model.specs.declared.Head.{Head}
 use Rattle.model.specs.declared.Message.{Message}
 use Rattle.model.specs.Count.{rows}
 use Rattle.model.specs.Graph.{Graph, index-of}
-use Rattle.model.specs.Layout.{Board, pair-places, index-places}
+use Rattle.model.specs.Layout.{Board, pair-places, index-places, sized}
 use Rattle.model.specs.Refusal.{refused-7, refused-8, refused-9, later}
 use Rattle.model.specs.Message.{pair-numbers, padded}
 use Rattle.delivery.specs.Calls.{Lent, Lending, Call, sent}
@@ -85,7 +85,7 @@ stamped (some e) = e .stamp
 -- the board of the sizes of h with these listed pairs and stamps: pairs in ascending order, then zeros; levels by the definition
 unfoldable pub filled : Head → (ℕ → ℕ → Bool) → (ℕ → ℕ → ℕ) → Board
 filled h clear stamp =
-    let g : Graph = record { operators = h .operators; rides = h .rides; cleared = clear } in
+    let g : Graph = sized h clear in
     record {
       head = record { operators = h .operators; rides = h .rides; pairs = length (pair-numbers g) };
       operators = padded (pair-places h) (map (λ k. k / h .rides) (pair-numbers g));

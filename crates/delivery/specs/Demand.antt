@@ -9,8 +9,7 @@ use lib.Dec.{T}
 use lib.ListN.{length, take}
 use Rattle.model.specs.declared.Head.{Head}
 use Rattle.model.specs.declared.Message.{Message}
-use Rattle.model.specs.Graph.{Graph}
-use Rattle.model.specs.Layout.{Board, over, graph}
+use Rattle.model.specs.Layout.{Board, over, board-graph}
 use Rattle.model.specs.Refusal.{later, build-refusal, message-refusal, list-refusal}
 use Rattle.model.specs.Message.{cleared-on, board-message, board-messages}
 use Rattle.model.specs.Demand.{OneMove}
@@ -46,6 +45,13 @@ pub record LatestLaws : Type 0 where
   pub only : (h : Head) (es : List Message) (u v : ℕ) (e f : Message) → ((m : Message) → List·Memᴰ m es → T (valid h m)) → Latest es u v e → Latest es u v f →
       (e .kind ≡ f .kind) × (e .stamp ≡ f .stamp)
 
+-- every entry of a book is valid
+abbrev pub BookValid : Type 0
+BookValid =
+    (b : Board) (start : ℕ) (calls : List Call) →
+    build-refusal b start ≡ 0 →
+    (e : Message) → List·Memᴰ e (book (b .head) (b .operators) (b .rides) start calls) → T (valid (b .head) e)
+
 -- two boards as lent to a build have the same pair table
 pub record SameTable (b b′ : Board) : Type 0 where
   pub head : b .head ≡ b′ .head
@@ -62,10 +68,6 @@ AnyOrder =
     SameTable b b′ →
     ((m : Message) → T (valid (b .head) m) → List·Memᴰ m (delivered (built-board b start) calls) ↔ List·Memᴰ m (delivered (built-board b′ start) calls′)) →
     run (built-board b start) calls ≡ run (built-board b′ start) calls′
-
--- the clearance graph of a board
-abbrev pub board-graph : Board → Graph
-board-graph b = graph (b .head) (b .operators) (b .rides)
 
 -- Demand 3, its last sentence: on any board where a message is taken, how levels by the definition move
 pub record OneMessage : Type 0 where
@@ -101,6 +103,7 @@ pub record Demand3 : Type 0 where
   pub board-is-book : BoardIsBook
   pub only-three : OnlyThree
   pub latest-laws : LatestLaws
+  pub book-valid : BookValid
   pub any-order : AnyOrder
   pub one-message : OneMessage
   pub list-is-calls : ListIsCalls

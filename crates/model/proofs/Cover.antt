@@ -8,10 +8,10 @@ use native.Mathlib.Decide.{decLt}
 use lib.Dec.{T}
 use borrow.Author.Tests.{lt-ltb, le-ltb}
 use lib.ListN.{replicate}
-use Rattle.model.specs.Graph.{Graph, nodes, degree, Inside, Meets, limits, Core, marked, cover}
-use Rattle.model.specs.Demand.{CoverLaws}
+use Rattle.model.specs.Graph.{Graph, nodes, degree, Inside, Meets, limits, Core, marked, settled, peel, cover}
+use Rattle.model.specs.Demand.{AllOnes, CoverLaws}
 use Rattle.model.proofs.Count.{and-right, count-le, count-witness}
-use Rattle.model.proofs.Peel.{degree-operator, degree-ride, all-marked, peel-laws}
+use Rattle.model.proofs.Peel.{degree-operator, degree-ride, all-ones, all-marked, peel-laws}
 
 module _ (g : Graph) (α β x : ℕ) where
   pub limits-operator : x < g .operators → limits g α β x ≡ α
@@ -54,16 +54,20 @@ module _ (g : Graph) (s : ℕ → Bool) (x : ℕ) where
 -- ---- the cover
 
 -- the largest set inside all ones is the largest of all
+pub peeled-core : (g : Graph) (α β f : ℕ) (s : List ℕ) → AllOnes g s → T (settled g (limits g α β) (peel g (limits g α β) f s)) → Core g α β (marked (peel g (limits g α β) f s))
+peeled-core g α β f s ones done =
+    let l = peel-laws .largest g (limits g α β) f s done in
+    record {
+      inside = λ x h t. tt;
+      meets = l .meets;
+      largest = λ t i m. l .largest t (λ x h k. all-marked g s ones x h) m;
+    }
+
 pub cover-core : (g : Graph) (α β : ℕ) → Core g α β (marked (cover g α β))
 unfolding cover
 cover-core g α β =
     let ones : List ℕ = replicate (nodes g) 1 in
-    let l = peel-laws .largest g (limits g α β) (nodes g) ones (peel-laws .settles g (limits g α β) (nodes g) ones (count-le (marked ones) (nodes g))) in
-    record {
-      inside = λ x h t. tt;
-      meets = l .meets;
-      largest = λ t i m. l .largest t (λ x h k. all-marked g x h) m;
-    }
+    peeled-core g α β (nodes g) ones (all-ones g) (peel-laws .settles g (limits g α β) (nodes g) ones (count-le (marked ones) (nodes g)))
 
 -- a set that meets the limits lies inside the cover
 pub cover-holds : (g : Graph) (α β : ℕ) (t : ℕ → Bool) → Meets g (limits g α β) t → Inside g t (marked (cover g α β))
@@ -73,6 +77,7 @@ pub cover-laws : CoverLaws
 cover-laws =
     record {
       core = cover-core;
+      peeled = peeled-core;
       nest = λ g α α′ β β′ a b.
           cover-holds g α β (marked (cover g α′ β′)) (λ x h t. omega (arith, cover-core g α′ β′ .meets x h t, limits-mono g α α′ β β′ a b x));
     }

@@ -1,63 +1,68 @@
--- Demand 2 from end to end: the index that a build leaves, queried, gives the (α, β)-core of Definition 2.1. Assumes nothing.
+-- Demand 2 of the calls: a query on the index of any clearances, and a peel from all ones, give the (α, β)-core of Definition 2.1. Assumes nothing.
 use mathlib.Core.Path.{_≡_, refl, sym, ap, _∙_, subst}
 use mathlib.Core.Bool.{Bool, false, _&&_, _||_}
-use mathlib.Core.List.{List, []}
+use mathlib.Core.List.{List, [], _++_}
 use Prim.Native.Nat.{ℕ, suc, _+_, _-_, _*_, _≤_, _<_}
 use native.Mathlib.Omega.{arith}
 use native.Mathlib.Decide.{decLe}
 use native.Mathlib.Nat.{suc-mul, mul-le-mul-right}
-use lib.Dec.{leb, eqb, eqb→eq}
+use lib.Dec.{T, ltb, leb, eqb, ltb→lt, eqb→eq}
 use borrow.Author.Tests.{lt-leb}
 use lib.ListN.{length, getD, drop, length-append, List·getD-append}
 use Rattle.model.specs.declared.Head.{Head}
 use Rattle.model.specs.Count.{bit}
-use Rattle.model.specs.Graph.{Graph, nodes, Core, marked, level, index-of}
-use Rattle.model.specs.Layout.{Board, mark-places, index-places, over, graph}
-use Rattle.model.specs.Refusal.{refused-1, refused-2, refused-3, refused-11, build-refusal, query-refusal}
-use Rattle.model.specs.Calls.{built, board-build, query-marks, counts, board-query}
-use Rattle.model.specs.Demand.{IsCore, BuildThenQuery}
-use Rattle.model.proofs.Count.{or-cases, count-ext, values-ext, length-values, length-rows}
+use Rattle.model.specs.Graph.{Graph, nodes, limits, Core, marked, settled, peel, level, index-of}
+use Rattle.model.specs.Layout.{Board, pair-places, mark-places, index-places, over, sized, graph, board-graph}
+use Rattle.model.specs.Refusal.{refused-1, refused-2, refused-3, refused-11, refused-12, build-refusal, query-refusal, peel-refusal}
+use Rattle.model.specs.Calls.{built, board-build, query-marks, counts, board-query, peeled, board-peel}
+use Rattle.model.specs.Demand.{AllOnes, IsCore, IndexThenQuery, BuildThenQuery, PeelIsCore}
+use Rattle.model.proofs.Count.{test-true, bit-test, or-cases, count-le, count-ext, some-witness, values-ext, length-values, length-rows}
+use Rattle.model.proofs.Peel.{peel-laws}
+use Rattle.model.proofs.Cover.{peeled-core}
 use Rattle.model.proofs.Query.{core-ext, query-is-core}
-use Rattle.model.proofs.Refusal.{lowest-nil, lowest-skip, not-less, build-none}
+use Rattle.model.proofs.Refusal.{AcceptedTable, lowest-nil, lowest-skip, not-less, table-skip, build-none}
+
+-- 11 does not apply to limits from 1
+from-one : (α β : ℕ) → 1 ≤ α → 1 ≤ β → T (refused-11 α β) → ⊥
+from-one α β a b t =
+    or-cases (eqb α 0) (eqb β 0) t (λ s. let z : ⊥ = omega (arith, eqb→eq α 0 s) in z) (λ s. let z : ⊥ = omega (arith, eqb→eq β 0 s) in z)
+
+-- ---- query
 
 length-index : (g : Graph) → length (index-of g) ≡ g .rides * nodes g
 unfolding index-of
 length-index g = length-rows (nodes g) (λ (a x : ℕ). level g (suc a) x) (g .rides)
 
 -- the index that a build leaves
-built-index : (b : Board) (start : ℕ) → build-refusal b start ≡ 0 → board-build b start .board .index ≡ over (index-of (graph (b .head) (b .operators) (b .rides))) (b .index)
+built-index : (b : Board) (start : ℕ) → build-refusal b start ≡ 0 → board-build b start .board .index ≡ over (index-of (board-graph b)) (b .index)
 unfolding board-build built
 built-index b start e = rw (e, board-build)
 
-module _ (b : Board) (start α β : ℕ) (marks : List ℕ) (none : build-refusal b start ≡ 0) (a : 1 ≤ α) (c : 1 ≤ β) (long : mark-places (b .head) ≤ length marks) where
-  abbrev h : Head
-  h = b .head
-
+module _ (h : Head) (d : ℕ → ℕ → Bool) (more : List ℕ) (α β : ℕ) (marks : List ℕ) (few : h .operators ≤ 200) (few′ : h .rides ≤ 60) (a : 1 ≤ α) (c : 1 ≤ β) (long : mark-places h ≤ length marks) where
   abbrev g : Graph
-  g = graph h (b .operators) (b .rides)
+  g = sized h d
 
   abbrev index : List ℕ
-  index = over (index-of g) (b .index)
+  index = index-of g ++ more
 
   index-long : index-places h ≤ length index
-  index-long = omega (arith, length-append (index-of g) (drop (length (index-of g)) (b .index)), length-index g)
+  index-long = omega (arith, length-append (index-of g) more, length-index g)
 
   -- none of the query's numbers applies
   query-none : query-refusal h index α β marks ≡ 0
   unfolding query-refusal
   query-none =
-      let t = build-none b start none .0 in
-      lowest-skip 1 (refused-1 h) _ (not-less 200 (h .operators) (t .few-operators)) ∙
-      lowest-skip 2 (refused-2 h) _ (not-less 60 (h .rides) (t .few-rides)) ∙
+      lowest-skip 1 (refused-1 h) _ (not-less 200 (h .operators) few) ∙
+      lowest-skip 2 (refused-2 h) _ (not-less 60 (h .rides) few′) ∙
       lowest-skip 3 (refused-3 (index-places h) index || refused-3 (mark-places h) marks) _ (λ s. or-cases (refused-3 (index-places h) index) (refused-3 (mark-places h) marks) s (not-less (length index) (index-places h) index-long) (not-less (length marks) (mark-places h) long)) ∙
-      lowest-skip 11 (refused-11 α β) [] (λ s. or-cases (eqb α 0) (eqb β 0) s (λ k. let z : ⊥ = omega (arith, eqb→eq α 0 k) in z) (λ k. let z : ⊥ = omega (arith, eqb→eq β 0 k) in z)) ∙
+      lowest-skip 11 (refused-11 α β) [] (from-one α β a c) ∙
       lowest-nil
 
   -- a row of the index lies inside its first words
   word : (x : ℕ) → x < mark-places h → (leb α (h .rides) && leb β (getD index ((α - 1) * mark-places h + x) 0)) ≡ (leb α (h .rides) && leb β (getD (index-of g) ((α - 1) * mark-places h + x) 0))
   word x l =
       elim (decLe α (h .rides)) [
-        | yes k ↦ ap (λ (z : ℕ). leb α (h .rides) && leb β z) (List·getD-append (index-of g) (drop (length (index-of g)) (b .index)) 0 ((α - 1) * mark-places h + x) (omega (arith, length-index g, suc-mul (α - 1) (mark-places h), mul-le-mul-right (mark-places h) (let q : suc (α - 1) ≤ h .rides = omega arith in q))))
+        | yes k ↦ ap (λ (z : ℕ). leb α (h .rides) && leb β z) (List·getD-append (index-of g) more 0 ((α - 1) * mark-places h + x) (omega (arith, length-index g, suc-mul (α - 1) (mark-places h), mul-le-mul-right (mark-places h) (let q : suc (α - 1) ≤ h .rides = omega arith in q))))
         | no k ↦
             (let q : leb α (h .rides) ≡ false = lt-leb α (h .rides) (omega arith) in
             ap (λ (z : Bool). z && leb β (getD index ((α - 1) * mark-places h + x) 0)) q ∙ sym (ap (λ (z : Bool). z && leb β (getD (index-of g) ((α - 1) * mark-places h + x) 0)) q))
@@ -81,11 +86,46 @@ module _ (b : Board) (start α β : ℕ) (marks : List ℕ) (none : build-refusa
       rw (query-none, board-query)
       (record {
         code = refl;
-        core = core-ext g α β (marked (query-marks h index α β)) (marked (over (query-marks h index α β) marks)) shown (subst (λ (z : List ℕ). Core g α β (marked z)) (sym same-marks) (query-is-core h (b .operators) (b .rides) α β a c));
+        core = core-ext g α β (marked (query-marks h index α β)) (marked (over (query-marks h index α β) marks)) shown (subst (λ (z : List ℕ). Core g α β (marked z)) (sym same-marks) (query-is-core h (g .cleared) α β a c));
         operators = count-ext (marked (query-marks h index α β)) (marked (over (query-marks h index α β) marks)) (h .operators) (λ x l. shown x (omega arith));
         rides = count-ext (λ (v : ℕ). marked (query-marks h index α β) (h .operators + v)) (λ (v : ℕ). marked (over (query-marks h index α β) marks) (h .operators + v)) (h .rides) (λ v l. shown (h .operators + v) (omega arith));
       })
 
+pub index-then-query : IndexThenQuery
+index-then-query h d more α β marks few few′ a c long = outcome h d more α β marks few few′ a c long
+
 pub build-then-query : BuildThenQuery
 build-then-query b start α β marks none a c long =
-    subst (λ (i : List ℕ). IsCore (graph (b .head) (b .operators) (b .rides)) α β (board-query (b .head) i α β marks)) (sym (built-index b start none)) (outcome b start α β marks none a c long)
+    let t = build-none b start none .0 in
+    let g : Graph = board-graph b in
+    subst (λ (i : List ℕ). IsCore g α β (board-query (b .head) i α β marks)) (sym (built-index b start none)) (outcome (b .head) (g .cleared) (drop (length (index-of g)) (b .index)) α β marks (t .few-operators) (t .few-rides) a c long)
+
+-- ---- peel
+
+-- from all ones, on a board to which 1 to 5 do not apply, none of the peel's numbers applies
+pub peel-none : (b : Board) (marks : List ℕ) (α β : ℕ) → AcceptedTable b → 1 ≤ α → 1 ≤ β → mark-places (b .head) ≤ length marks → AllOnes (board-graph b) marks → peel-refusal (b .head) (b .operators) (b .rides) marks α β ≡ 0
+unfolding peel-refusal refused-12
+peel-none b marks α β t a c long ones =
+    let h : Head = b .head in
+    let o : Bool = refused-3 (pair-places h) (b .operators) in
+    let r : Bool = refused-3 (pair-places h) (b .rides) in
+    let m : Bool = refused-3 (mark-places h) marks in
+    let short : T (o || r || m) → ⊥ = λ s. or-cases (o || r) m s (λ k. or-cases o r k (not-less (length (b .operators)) (pair-places h) (t .operators)) (not-less (length (b .rides)) (pair-places h) (t .rides))) (not-less (length marks) (mark-places h) long) in
+    let unknown : T (refused-12 h marks) → ⊥ = λ s. let w = some-witness (λ (x : ℕ). ltb 1 (getD marks x 0)) (mark-places h) s in omega (arith, ltb→lt 1 (getD marks (w .0) 0) (w .2), ones (w .0) (w .1)) in
+    table-skip b (o || r || m) _ t short ∙
+    lowest-skip 11 (refused-11 α β) _ (from-one α β a c) ∙
+    lowest-skip 12 (refused-12 h marks) [] unknown ∙
+    lowest-nil
+
+pub peel-is-core : PeelIsCore
+unfolding board-peel peeled
+peel-is-core h operators rides marks α β allowed none ones =
+    let g : Graph = graph h operators rides in
+    let done : Bool = settled g (limits g α β) (peel g (limits g α β) allowed marks) in
+    rw (none, board-peel)
+    (record {
+      code = refl;
+      core = λ e. peeled-core g α β allowed marks ones (subst T (bit-test done) (subst (λ (z : ℕ). T (eqb z 1)) (sym e) tt));
+      steps = peel-laws .steps-from-all g (limits g α β) allowed marks ones;
+      settles = λ l. ap bit (test-true done (peel-laws .settles g (limits g α β) allowed marks (omega (arith, count-le (marked marks) (nodes g)))));
+    })

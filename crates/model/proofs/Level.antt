@@ -130,17 +130,17 @@ level-same g c same α x h =
       level-more (changed g c) (g .cleared) (λ u v k l t. subst T (sym (same u v k l)) t) α x h,
     )
 
--- the index depends on the clearances below the sizes and on nothing else
-pub index-same : (g : Graph) (c : ℕ → ℕ → Bool) → ((u v : ℕ) → u < g .operators → v < g .rides → g .cleared u v ≡ c u v) → index-of (changed g c) ≡ index-of g
-unfolding index-of
-index-same g c same =
-    rows-ext (nodes g) (λ (r x : ℕ). level (changed g c) (suc r) x) (λ (r x : ℕ). level g (suc r) x) (g .rides) (λ r x k h. level-same g c same (suc r) x h)
-
 pub level-place : (g : Graph) (α x : ℕ) → 1 ≤ α → α ≤ g .rides → x < nodes g → getD (index-of g) ((α - 1) * nodes g + x) 0 ≡ level g α x
 unfolding index-of
 level-place g α x a r h =
     getD-rows (nodes g) (λ (b y : ℕ). level g (suc b) y) (g .rides) (α - 1) x 0 (omega arith) h ∙
     ap (λ (b : ℕ). level g b x) (let e : suc (α - 1) ≡ α = omega arith in e)
+
+-- the index depends on the clearances below the sizes and on nothing else
+pub index-same : (g : Graph) (c : ℕ → ℕ → Bool) → ((u v : ℕ) → u < g .operators → v < g .rides → g .cleared u v ≡ c u v) → index-of (changed g c) ≡ index-of g
+unfolding index-of
+index-same g c same =
+    rows-ext (nodes g) (λ (r x : ℕ). level (changed g c) (suc r) x) (λ (r x : ℕ). level g (suc r) x) (g .rides) (λ r x k h. level-same g c same (suc r) x h)
 
 pub level-laws : LevelLaws
 level-laws =

@@ -14,11 +14,11 @@ use lib.Seq.{getD-append-seam, take-suc, ext-getD}
 use Rattle.model.specs.declared.Head.{Head}
 use Rattle.model.specs.Count.{bit, count, values, rows, passing}
 use Rattle.model.specs.Graph.{Graph}
-use Rattle.model.specs.Layout.{pair-at, listed, graph}
+use Rattle.model.specs.Layout.{pair-at, listed, sized, graph}
 use Rattle.model.specs.Refusal.{before, unordered, out-of-range, misplaced, refused-5}
 use Rattle.model.specs.Message.{pair-numbers, padded}
 use Rattle.model.specs.Demand.{changed}
-use Rattle.model.proofs.Count.{by-test, test-true, test-false, test-ext, and-left, and-right, and-both, or-left, or-right, or-cases, count-le, some-holds, some-witness, length-values, values-ext, length-rows, getD-rows}
+use Rattle.model.proofs.Count.{by-test, test-true, test-false, test-ext, and-left, and-right, and-both, or-left, or-right, or-cases, count-le, some-holds, some-witness, some-ext, length-values, values-ext, length-rows, getD-rows}
 
 -- ---- the numbers that pass a test
 
@@ -260,6 +260,13 @@ module _ (n : ℕ) (operators rides : List ℕ) (u v : ℕ) where
   unfolding listed
   place-listed i h d e = some-holds (pair-at operators rides u v) n i h (pair-stands operators rides u v i d e)
 
+-- what lies behind the pair arrays doesn't matter
+pub graph-append : (h : Head) (operators rides more more′ : List ℕ) → h .pairs ≤ length operators → h .pairs ≤ length rides → graph h (operators ++ more) (rides ++ more′) ≡ graph h operators rides
+unfolding listed
+graph-append h operators rides more more′ l l′ = λ j.
+    sized h
+    (λ u v. some-ext (pair-at (operators ++ more) (rides ++ more′) u v) (pair-at operators rides u v) (h .pairs) (λ i k. ap₂ (λ (x y : ℕ). eqb x u && eqb y v) (List·getD-append operators more 0 i (omega arith)) (List·getD-append rides more′ 0 i (omega arith))) j)
+
 -- ---- arrays that hold the pairs of g are its enumeration
 
 module _ (g : Graph) (n : ℕ) (operators rides : List ℕ) (ps : Pairs g n operators rides) where
@@ -392,12 +399,9 @@ module _ (h : Head) (operators rides : List ℕ) where
       }
 
   -- to arrays that hold the pairs of a graph of its sizes, 4 and 5 do not apply
-  module _ (c : ℕ → ℕ → Bool) (ps : Pairs (record { operators = h .operators; rides = h .rides; cleared = c }) (h .pairs) operators rides) where
-    abbrev sized : Graph
-    sized = record { operators = h .operators; rides = h .rides; cleared = c }
-
+  module _ (c : ℕ → ℕ → Bool) (ps : Pairs (sized h c) (h .pairs) operators rides) where
     pub pairs-fit : h .pairs ≤ h .operators * h .rides
-    pairs-fit = omega (arith, pairs-count sized (h .pairs) operators rides ps, length-numbers sized)
+    pairs-fit = omega (arith, pairs-count (sized h c) (h .pairs) operators rides ps, length-numbers (sized h c))
 
     ordered : (i : ℕ) → i < h .pairs → T (unordered operators rides i) → ⊥
     ordered zero l t = t

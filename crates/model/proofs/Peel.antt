@@ -12,7 +12,7 @@ use lib.ListN.{length, getD, set, take, drop, replicate, take-append-drop, getD-
 use lib.Seq.{getD-set-same, getD-set-other, set-out, set-append-left, drop-set-lt, length-take-le, take-at}
 use Rattle.model.specs.Count.{bit, count, some, lowest}
 use Rattle.model.specs.Graph.{Graph, nodes, degree, Inside, Meets, Largest, marked, short, settled, removals, without, peel}
-use Rattle.model.specs.Demand.{members, LowestShort, Dropped, PeelLaws}
+use Rattle.model.specs.Demand.{members, AllOnes, LowestShort, Dropped, PeelLaws}
 use Rattle.model.proofs.Count.{by-test, test-true, test-false, test-ext, and-left, and-right, and-both, count-all, count-mono, count-but-one, count-less, some-holds, some-witness, some-ext, count-ext, count-without, lowest-least, lowest-passes, lowest-lt, lowest-ext}
 
 -- ---- degree
@@ -170,7 +170,7 @@ module _ (s : List ℕ) (x : ℕ) where
 module _ (g : Graph) (limit : ℕ → ℕ) (s : List ℕ) where
   pub short-marked : (x : ℕ) → T (short g limit s x) → T (marked s x)
   unfolding short
-  short-marked x t = and-left (marked s x) (ltb (degree g (marked s) x) (limit x)) t
+  short-marked x t = and-left (marked s x) _ t
 
   pub short-lacks : (x : ℕ) → T (short g limit s x) → degree g (marked s) x < limit x
   unfolding short
@@ -423,12 +423,12 @@ module _ (g : Graph) (limit : ℕ → ℕ) (f : ℕ) (s t : List ℕ) (h : nodes
 
 -- ---- from all ones, and the laws together
 
--- everybody is marked by all ones
-pub all-marked : (g : Graph) (y : ℕ) → y < nodes g → T (marked (replicate (nodes g) 1) y)
-all-marked g y h = subst (λ (z : ℕ). T (eqb z 1)) (sym (getD-replicate (nodes g) y 1 0 h)) tt
+pub all-ones : (g : Graph) → AllOnes g (replicate (nodes g) 1)
+all-ones g x h = getD-replicate (nodes g) x 1 0 h
 
-members-all : (g : Graph) → members g (replicate (nodes g) 1) ≡ nodes g
-members-all g = count-all (marked (replicate (nodes g) 1)) (nodes g) (all-marked g)
+-- everybody is marked by all ones
+pub all-marked : (g : Graph) (s : List ℕ) → AllOnes g s → (x : ℕ) → x < nodes g → T (marked s x)
+all-marked g s ones x h = subst (λ (z : ℕ). T (eqb z 1)) (sym (ones x h)) tt
 
 largest-only : (g : Graph) (limit : ℕ → ℕ) (start s t : ℕ → Bool) → Largest g limit start s → Largest g limit start t → (x : ℕ) → x < nodes g → s x ≡ t x
 largest-only g limit start s t ls lt x h =
@@ -447,7 +447,7 @@ peel-laws =
         λ k. not-T (settled g limit (peel g limit f s)) (λ t. some-nobody g limit f s t (k .1)),
       );
       steps = peel-steps;
-      steps-from-all = λ g limit f. omega (arith, peel-steps g limit f (replicate (nodes g) 1), members-all g);
+      steps-from-all = λ g limit f s ones. omega (arith, peel-steps g limit f s, count-all (marked s) (nodes g) (all-marked g s ones));
       tail = peel-tail;
     }
   where

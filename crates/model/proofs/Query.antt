@@ -1,4 +1,4 @@
--- Demand 2 for queries: on the index of a pair table a query's marks are the (α, β)-core of Definition 2.1. Assumes nothing.
+-- Demand 2 for queries: on the index of any clearances of the head's sizes a query's marks are the (α, β)-core of Definition 2.1. Assumes nothing.
 use mathlib.Core.Path.{_≡_, sym, _∙_, ap, subst}
 use mathlib.Core.Bool.{Bool, _&&_}
 use mathlib.Core.List.{List}
@@ -9,7 +9,7 @@ use lib.ListN.{getD}
 use Rattle.model.specs.declared.Head.{Head}
 use Rattle.model.specs.Count.{bit}
 use Rattle.model.specs.Graph.{Graph, nodes, Core, marked, cover, index-of}
-use Rattle.model.specs.Layout.{mark-places, graph}
+use Rattle.model.specs.Layout.{mark-places, sized}
 use Rattle.model.specs.Calls.{query-marks}
 use Rattle.model.specs.Demand.{QueryIsCore}
 use Rattle.model.proofs.Count.{bit-test, test-ext, and-left, and-right, and-both, getD-values}
@@ -33,9 +33,9 @@ query-marked h index α β x l =
     let b : ℕ → Bool = λ y. leb α (h .rides) && leb β (getD index ((α - 1) * mark-places h + y) 0) in
     ap (λ (z : ℕ). eqb z 1) (getD-values (λ (y : ℕ). bit (b y)) (mark-places h) x 0 l) ∙ bit-test (b x)
 
-module _ (h : Head) (operators rides : List ℕ) (α β : ℕ) (a : 1 ≤ α) (b : 1 ≤ β) (x : ℕ) (l : x < mark-places h) where
+module _ (h : Head) (c : ℕ → ℕ → Bool) (α β : ℕ) (a : 1 ≤ α) (b : 1 ≤ β) (x : ℕ) (l : x < mark-places h) where
   abbrev g : Graph
-  g = graph h operators rides
+  g = sized h c
 
   abbrev word : ℕ
   word = getD (index-of g) ((α - 1) * mark-places h + x) 0
@@ -48,6 +48,6 @@ module _ (h : Head) (operators rides : List ℕ) (α β : ℕ) (a : 1 ≤ α) (b
       sym (query-marked h (index-of g) α β x l)
 
 pub query-is-core : QueryIsCore
-query-is-core h operators rides α β a b =
-    let g = graph h operators rides in
-    core-ext g α β (marked (cover g α β)) (marked (query-marks h (index-of g) α β)) (query-cover h operators rides α β a b) (cover-core g α β)
+query-is-core h c α β a b =
+    let g = sized h c in
+    core-ext g α β (marked (cover g α β)) (marked (query-marks h (index-of g) α β)) (query-cover h c α β a b) (cover-core g α β)

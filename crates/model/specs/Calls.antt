@@ -9,7 +9,7 @@ use Rattle.model.specs.declared.Counts.{Counts}
 use Rattle.model.specs.declared.Peeled.{Peeled}
 use Rattle.model.specs.Count.{bit, count, values, rows}
 use Rattle.model.specs.Graph.{Graph, limits, marked, settled, removals, peel, index-of}
-use Rattle.model.specs.Layout.{Board, mark-places, over, graph, zero-tail}
+use Rattle.model.specs.Layout.{Board, mark-places, over, graph, board-graph, zero-tail}
 use Rattle.model.specs.Refusal.{build-refusal, query-refusal, peel-refusal}
 
 -- what a build gives: the number, and the board at exit
@@ -28,8 +28,8 @@ built b start =
       head = b .head;
       operators = over (zero-tail (b .head) (b .operators)) (b .operators);
       rides = over (zero-tail (b .head) (b .rides)) (b .rides);
-      stamps = over (start-stamps (graph (b .head) (b .operators) (b .rides)) start) (b .stamps);
-      index = over (index-of (graph (b .head) (b .operators) (b .rides))) (b .index);
+      stamps = over (start-stamps (board-graph b) start) (b .stamps);
+      index = over (index-of (board-graph b)) (b .index);
     }
 
 -- Build

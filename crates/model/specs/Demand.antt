@@ -2,20 +2,24 @@
 use mathlib.Core.Path.{_≡_}
 use mathlib.Core.Logic.{_↔_, _≢_}
 use mathlib.Core.Bool.{Bool, true, false, not}
-use mathlib.Core.List.{List, [], _∷_}
+use mathlib.Core.List.{List, [], _∷_, _++_}
 use Prim.Native.Nat.{ℕ, _+_, _-_, _*_, _≤_, _<_, max}
 use lib.Dec.{T}
-use lib.ListN.{length, getD, set, drop, replicate}
+use lib.ListN.{length, getD, set, drop}
 use Rattle.model.specs.declared.Head.{Head}
 use Rattle.model.specs.Count.{count, some}
-use Rattle.model.specs.Graph.{Graph, nodes, degree, everybody, Inside, Largest, Core, marked, short, settled, removals, peel, cover, level, index-of}
-use Rattle.model.specs.Layout.{Board, mark-places, graph}
-use Rattle.model.specs.Refusal.{build-refusal}
-use Rattle.model.specs.Calls.{QueryOutcome, query-marks, board-build, board-query}
+use Rattle.model.specs.Graph.{Graph, nodes, degree, everybody, Inside, Largest, limits, Core, marked, short, settled, removals, peel, cover, level, index-of}
+use Rattle.model.specs.Layout.{Board, mark-places, sized, graph, board-graph}
+use Rattle.model.specs.Refusal.{build-refusal, peel-refusal}
+use Rattle.model.specs.Calls.{QueryOutcome, PeelOutcome, query-marks, board-build, board-query, board-peel}
 
 -- how many nodes are marked
 abbrev pub members : Graph → List ℕ → ℕ
 members g s = count (nodes g) (marked s)
+
+-- all ones: the mark of each node is 1
+abbrev pub AllOnes : Graph → List ℕ → Type 0
+AllOnes g s = (x : ℕ) → x < nodes g → getD s x 0 ≡ 1
 
 -- x is the lowest-numbered node that falls short in s
 pub record LowestShort (g : Graph) (limit : ℕ → ℕ) (s : List ℕ) (x : ℕ) : Type 0 where
@@ -40,15 +44,17 @@ pub record PeelLaws : Type 0 where
   pub only : (g : Graph) (limit : ℕ → ℕ) (start s t : ℕ → Bool) → Largest g limit start s → Largest g limit start t → (x : ℕ) → x < nodes g → s x ≡ t x
   -- unsettled exactly if all allowed steps were taken and somebody still falls short
   pub unsettled : (g : Graph) (limit : ℕ → ℕ) (f : ℕ) (s : List ℕ) → T (not (settled g limit (peel g limit f s))) ↔ ((length (removals g limit f s) ≡ f) × T (some (nodes g) (short g limit (peel g limit f s))))
-  -- each step clears one mark; from all ones steps taken = operators + rides − members
+  -- each step clears one mark; from all ones steps taken = operators + rides − members, whatever lies behind the nodes' marks
   pub steps : (g : Graph) (limit : ℕ → ℕ) (f : ℕ) (s : List ℕ) → members g (peel g limit f s) + length (removals g limit f s) ≡ members g s
-  pub steps-from-all : (g : Graph) (limit : ℕ → ℕ) (f : ℕ) → length (removals g limit f (replicate (nodes g) 1)) ≡ nodes g - members g (peel g limit f (replicate (nodes g) 1))
+  pub steps-from-all : (g : Graph) (limit : ℕ → ℕ) (f : ℕ) (s : List ℕ) → AllOnes g s → length (removals g limit f s) ≡ nodes g - members g (peel g limit f s)
   -- marks past the nodes stay
   pub tail : (g : Graph) (limit : ℕ → ℕ) (f : ℕ) (s : List ℕ) → drop (nodes g) (peel g limit f s) ≡ drop (nodes g) s
 
 -- Cover (α, β) is the (α, β)-core of Definition 2.1, also for limits 0; covers nest in α and in β
 pub record CoverLaws : Type 0 where
   pub core : (g : Graph) (α β : ℕ) → Core g α β (marked (cover g α β))
+  -- a settled peel from all ones leaves it, whatever lies behind the nodes' marks
+  pub peeled : (g : Graph) (α β f : ℕ) (s : List ℕ) → AllOnes g s → T (settled g (limits g α β) (peel g (limits g α β) f s)) → Core g α β (marked (peel g (limits g α β) f s))
   pub nest : (g : Graph) (α α′ β β′ : ℕ) → α ≤ α′ → β ≤ β′ → Inside g (marked (cover g α′ β′)) (marked (cover g α β))
 
 -- the graph g with other clearances
@@ -67,13 +73,13 @@ pub record LevelLaws : Type 0 where
   -- row α starts at (α − 1) × (operators + rides)
   pub place : (g : Graph) (α x : ℕ) → 1 ≤ α → α ≤ g .rides → x < nodes g → getD (index-of g) ((α - 1) * nodes g + x) 0 ≡ level g α x
 
--- Demand 2 for queries: on the index of a pair table the marks are the (α, β)-core, for every α and β from 1
+-- Demand 2 for queries: on the index of any clearances of the head's sizes the marks are the (α, β)-core, for every α and β from 1
 abbrev pub QueryIsCore : Type 0
 QueryIsCore =
-    (h : Head) (operators rides : List ℕ) (α β : ℕ) →
+    (h : Head) (cleared : ℕ → ℕ → Bool) (α β : ℕ) →
     1 ≤ α →
     1 ≤ β →
-    Core (graph h operators rides) α β (marked (query-marks h (index-of (graph h operators rides)) α β))
+    Core (sized h cleared) α β (marked (query-marks h (index-of (sized h cleared)) α β))
 
 -- what a query gives is the (α, β)-core, with its sizes
 pub record IsCore (g : Graph) (α β : ℕ) (o : QueryOutcome) : Type 0 where
@@ -82,7 +88,18 @@ pub record IsCore (g : Graph) (α β : ℕ) (o : QueryOutcome) : Type 0 where
   pub operators : o .answer .operators ≡ count (g .operators) (marked (o .marks))
   pub rides : o .answer .rides ≡ count (g .rides) (λ v. marked (o .marks) (g .operators + v))
 
--- Demand 2 from end to end: build an accepted table, query any α and β from 1, and the marks are the core, the counts its sizes
+-- the same of the call, with any words behind the index: its marks are the core, and its counts the core's sizes
+abbrev pub IndexThenQuery : Type 0
+IndexThenQuery =
+    (h : Head) (cleared : ℕ → ℕ → Bool) (more : List ℕ) (α β : ℕ) (marks : List ℕ) →
+    h .operators ≤ 200 →
+    h .rides ≤ 60 →
+    1 ≤ α →
+    1 ≤ β →
+    mark-places h ≤ length marks →
+    IsCore (sized h cleared) α β (board-query h (index-of (sized h cleared) ++ more) α β marks)
+
+-- the same of the index that the build of an accepted table left
 abbrev pub BuildThenQuery : Type 0
 BuildThenQuery =
     (b : Board) (start α β : ℕ) (marks : List ℕ) →
@@ -90,7 +107,23 @@ BuildThenQuery =
     1 ≤ α →
     1 ≤ β →
     mark-places (b .head) ≤ length marks →
-    IsCore (graph (b .head) (b .operators) (b .rides)) α β (board-query (b .head) (board-build b start .board .index) α β marks)
+    IsCore (board-graph b) α β (board-query (b .head) (board-build b start .board .index) α β marks)
+
+-- what a peel from all ones gives, with so many steps allowed: settled, its marks are the (α, β)-core; one step was taken for each node
+-- that is out; and as many steps as there are nodes are enough to settle
+pub record IsPeeledCore (g : Graph) (α β allowed : ℕ) (o : PeelOutcome) : Type 0 where
+  pub code : o .answer .code ≡ 0
+  pub core : o .answer .settled ≡ 1 → Core g α β (marked (o .marks))
+  pub steps : o .answer .steps ≡ nodes g - members g (o .marks)
+  pub settles : nodes g ≤ allowed → o .answer .settled ≡ 1
+
+-- Demand 2 for peels: "from all ones this is the cover", of any peel that isn't refused
+abbrev pub PeelIsCore : Type 0
+PeelIsCore =
+    (h : Head) (operators rides marks : List ℕ) (α β allowed : ℕ) →
+    peel-refusal h operators rides marks α β ≡ 0 →
+    AllOnes (graph h operators rides) marks →
+    IsPeeledCore (graph h operators rides) α β allowed (board-peel h operators rides marks α β allowed)
 
 -- the clearances c are those of g with the pair (u, v) added
 pub record Added (g : Graph) (c : ℕ → ℕ → Bool) (u v : ℕ) : Type 0 where

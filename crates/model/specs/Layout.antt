@@ -45,10 +45,17 @@ pair-at operators rides u v i = eqb (getD operators i 0) u && eqb (getD rides i 
 unfoldable pub listed : ℕ → List ℕ → List ℕ → ℕ → ℕ → Bool
 listed pairs operators rides u v = some pairs (pair-at operators rides u v)
 
+-- the clearance graph of the head's sizes with these clearances
+abbrev pub sized : Head → (ℕ → ℕ → Bool) → Graph
+sized h cleared = record { operators = h .operators; rides = h .rides; cleared = cleared }
+
 -- the clearance graph of a pair table
 abbrev pub graph : Head → List ℕ → List ℕ → Graph
-graph h operators rides =
-    record { operators = h .operators; rides = h .rides; cleared = listed (h .pairs) operators rides }
+graph h operators rides = sized h (listed (h .pairs) operators rides)
+
+-- the clearance graph of a board
+abbrev pub board-graph : Board → Graph
+board-graph b = graph (b .head) (b .operators) (b .rides)
 
 -- a pair array with its tail zeroed: the listed places as they are, zeros up to its end
 abbrev pub zero-tail : Head → List ℕ → List ℕ

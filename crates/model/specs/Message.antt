@@ -8,12 +8,12 @@ use Rattle.model.specs.declared.Message.{Message}
 use Rattle.model.specs.declared.Answer.{Answer}
 use Rattle.model.specs.Count.{passing}
 use Rattle.model.specs.Graph.{Graph, index-of}
-use Rattle.model.specs.Layout.{Board, index-places, over, listed, differing}
+use Rattle.model.specs.Layout.{Board, index-places, over, sized, board-graph, differing}
 use Rattle.model.specs.Refusal.{stamp-place, message-refusal, list-refusal}
 
 -- the clearances of a board
 abbrev pub cleared-on : Board → ℕ → ℕ → Bool
-cleared-on b = listed (b .head .pairs) (b .operators) (b .rides)
+cleared-on b = board-graph b .cleared
 
 -- the clearances c with the pair (u, v) added (true) or removed (false)
 abbrev pub with-pair : (ℕ → ℕ → Bool) → ℕ → ℕ → Bool → ℕ → ℕ → Bool
@@ -45,12 +45,7 @@ pub record MessageOutcome : Type 0 where
 
 -- the clearance graph after a taken message
 abbrev pub graph-after : Board → Message → Graph
-graph-after b m =
-    record {
-      operators = b .head .operators;
-      rides = b .head .rides;
-      cleared = with-pair (cleared-on b) (m .operator) (m .ride) (eqb (m .kind) 1);
-    }
+graph-after b m = sized (b .head) (with-pair (cleared-on b) (m .operator) (m .ride) (eqb (m .kind) 1))
 
 -- the board after a taken message: the pair's stamp is set, and the pair is listed or not
 unfoldable pub board-after : Board → Message → Board

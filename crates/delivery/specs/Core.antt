@@ -1,0 +1,58 @@
+-- Demand 2, all of it: index, queries and peel give the (α, β)-core of Definition 2.1, on any index of clearances, after a build, and after any list of calls.
+use mathlib.Core.Path.{_≡_}
+use mathlib.Core.List.{List, _++_}
+use Prim.Native.Nat.{ℕ, _≤_}
+use lib.ListN.{length}
+use Rattle.model.specs.Graph.{index-of}
+use Rattle.model.specs.Layout.{Board, mark-places, board-graph}
+use Rattle.model.specs.Refusal.{build-refusal}
+use Rattle.model.specs.Calls.{board-query, board-peel}
+use Rattle.model.specs.Demand.{AllOnes, PeelLaws, CoverLaws, LevelLaws, QueryIsCore, IsCore, IndexThenQuery, BuildThenQuery, IsPeeledCore, PeelIsCore}
+use Rattle.delivery.specs.Calls.{Call, run, built-board}
+
+-- the index that a list of calls left is that of the pairs that the board then lists
+abbrev pub CallsThenIndex : Type 0
+CallsThenIndex =
+    (b : Board) (start : ℕ) (calls : List Call) →
+    build-refusal b start ≡ 0 →
+    let left = run (built-board b start) calls in
+    left .index ≡ index-of (board-graph left)
+
+-- each query of that board, its index lent with any words behind it, gives the core of the pairs that it lists, with its sizes
+abbrev pub CallsThenQuery : Type 0
+CallsThenQuery =
+    (b : Board) (start : ℕ) (calls : List Call) (more : List ℕ) (α β : ℕ) (marks : List ℕ) →
+    build-refusal b start ≡ 0 →
+    1 ≤ α →
+    1 ≤ β →
+    mark-places (b .head) ≤ length marks →
+    let left = run (built-board b start) calls in
+    IsCore (board-graph left) α β (board-query (left .head) (left .index ++ more) α β marks)
+
+-- each peel of it from all ones, its pair arrays lent with any words behind them, gives that core too once it is settled
+abbrev pub CallsThenPeel : Type 0
+CallsThenPeel =
+    (b : Board) (start : ℕ) (calls : List Call) (more more′ : List ℕ) (α β allowed : ℕ) (marks : List ℕ) →
+    build-refusal b start ≡ 0 →
+    1 ≤ α →
+    1 ≤ β →
+    mark-places (b .head) ≤ length marks →
+    AllOnes (board-graph b) marks →
+    let left = run (built-board b start) calls in
+    IsPeeledCore (board-graph left) α β allowed (board-peel (left .head) (left .operators ++ more) (left .rides ++ more′) marks α β allowed)
+
+-- Demand 2, all of it
+pub record Demand2 : Type 0 where
+  -- of the definitions: cover, level and index, peel
+  pub cover-laws : CoverLaws
+  pub level-laws : LevelLaws
+  pub peel-laws : PeelLaws
+  pub query-is-core : QueryIsCore
+  -- of the calls
+  pub index-then-query : IndexThenQuery
+  pub build-then-query : BuildThenQuery
+  pub peel-is-core : PeelIsCore
+  -- from end to end
+  pub calls-then-index : CallsThenIndex
+  pub calls-then-query : CallsThenQuery
+  pub calls-then-peel : CallsThenPeel
