@@ -20,56 +20,40 @@
 #define MESSAGES_MOST 64
 #define START 10
 
-/* All that a board keeps between two calls. */
-typedef struct Store {
-    BoardHead head;
-    uint16_t operators[BOARD_PAIR_PLACES(OPERATORS, RIDES)];
-    uint16_t rides[BOARD_PAIR_PLACES(OPERATORS, RIDES)];
-    uint32_t stamps[BOARD_STAMP_PLACES(OPERATORS, RIDES)];
-    uint16_t index[BOARD_INDEX_PLACES(OPERATORS, RIDES)];
-} Store;
+/* Document 01's board, twice. */
+#define PAIRS 7
+#define SAMPLE {{0, 0, 1, 1, 2, 2, 3}, {0, 1, 0, 1, 1, 2, 2}, {0}, {0}}
 
-/* Document 01's board. */
-#define SAMPLE {.head = {OPERATORS, RIDES, 7}, .operators = {0, 0, 1, 1, 2, 2, 3}, .rides = {0, 1, 0, 1, 1, 2, 2}}
+BOARD_STORAGE(arriving_memory, OPERATORS, RIDES) = SAMPLE;
+BOARD_STORAGE(in_order_memory, OPERATORS, RIDES) = SAMPLE;
+static Board arriving = BOARD_OVER(arriving_memory, OPERATORS, RIDES, PAIRS);
+static Board in_order = BOARD_OVER(in_order_memory, OPERATORS, RIDES, PAIRS);
 
-static Store arriving = SAMPLE, in_order = SAMPLE;
 static BoardMessage trace[MESSAGES_MOST];
 static uint16_t answers[BOARD_ANSWER_PLACES(MESSAGES_MOST)];
-static uint16_t marks[BOARD_MARK_PLACES(OPERATORS, RIDES)];
+static uint16_t marks[BOARD_MARK_PLACES(OPERATORS, RIDES)], peeled[BOARD_MARK_PLACES(OPERATORS, RIDES)];
 
 static void stop(const char *reason) {
     fprintf(stderr, "controller: %s\n", reason);
     exit(2);
 }
 
-static void build(Store *s) {
-    uint16_t code = board_build(s->head, s->operators, BOARD_LENGTH(s->operators), s->rides, BOARD_LENGTH(s->rides),
-                                START, s->stamps, BOARD_LENGTH(s->stamps), s->index, BOARD_LENGTH(s->index));
+static void check(uint16_t code) {
     if (code != BOARD_DONE)
         stop(board_text(code));
 }
 
-static BoardAnswer take(Store *s, BoardMessage message) {
-    return board_message(&s->head, s->operators, BOARD_LENGTH(s->operators), s->rides, BOARD_LENGTH(s->rides),
-                         s->stamps, BOARD_LENGTH(s->stamps), s->index, BOARD_LENGTH(s->index), message);
-}
-
-static void take_all(Store *s, const BoardMessage *messages, size_t count) {
-    uint16_t code = board_messages(&s->head, s->operators, BOARD_LENGTH(s->operators), s->rides,
-                                   BOARD_LENGTH(s->rides), s->stamps, BOARD_LENGTH(s->stamps), s->index,
-                                   BOARD_LENGTH(s->index), messages, count, answers, BOARD_LENGTH(answers));
-    if (code != BOARD_DONE)
-        stop(board_text(code));
-}
-
-/* Whether each ride gets its dispatch permit. */
-static void print_permits(const char *when, const Store *s, uint16_t alpha, uint16_t beta) {
-    BoardCounts counts = board_query(s->head, s->index, BOARD_LENGTH(s->index), alpha, beta, marks, BOARD_LENGTH(marks));
-    if (counts.code != BOARD_DONE)
-        stop(board_text(counts.code));
+/* Whether each ride gets its dispatch permit. The marks are compared with a peel, which does not use the index. */
+static void print_permits(const char *when, const Board *board, uint16_t alpha, uint16_t beta) {
+    check(board_query_on(board, alpha, beta, marks, BOARD_LENGTH(marks)).code);
+    for (size_t i = 0; i < BOARD_LENGTH(peeled); i++)
+        peeled[i] = 1;
+    check(board_peel_on(board, peeled, BOARD_LENGTH(peeled), alpha, beta, OPERATORS + RIDES).code);
+    if (memcmp(marks, peeled, sizeof marks) != 0)
+        stop("the board is damaged: its index is not that of its pairs");
     printf("  %s", when);
-    for (unsigned ride = 0; ride < s->head.rides; ride++) {
-        int permit = marks[BOARD_RIDE_MARK(s->head.operators, ride)] == 1;
+    for (unsigned ride = 0; ride < RIDES; ride++) {
+        int permit = marks[BOARD_RIDE_MARK(OPERATORS, ride)] == 1;
         printf("   ride %u: %9s", ride, permit ? "permit" : "no permit");
     }
     printf("\n");
@@ -119,11 +103,9 @@ static int by_stamp(const void *left, const void *right) {
     return (int)a->kind - (int)b->kind;
 }
 
-static int same(const Store *a, const Store *b) {
-    return memcmp(&a->head, &b->head, sizeof a->head) == 0 &&
-           memcmp(a->operators, b->operators, sizeof a->operators) == 0 &&
-           memcmp(a->rides, b->rides, sizeof a->rides) == 0 && memcmp(a->stamps, b->stamps, sizeof a->stamps) == 0 &&
-           memcmp(a->index, b->index, sizeof a->index) == 0;
+static int same(void) {
+    return memcmp(&arriving.head, &in_order.head, sizeof arriving.head) == 0 &&
+           memcmp(&arriving_memory, &in_order_memory, sizeof arriving_memory) == 0;
 }
 
 /* A limit, 16 bits; the board refuses 0. */
@@ -141,20 +123,20 @@ int main(int count, char **words) {
     size_t messages = read_trace(words[1]);
     uint16_t alpha = read_limit(words[2]), beta = read_limit(words[3]);
 
-    build(&arriving);
+    check(board_build_on(&arriving, START));
     printf("board: %u operators, %u rides, %u pairs, built at stamp %u; limits (%u,%u)\n", arriving.head.operators,
            arriving.head.rides, arriving.head.pairs, START, alpha, beta);
     for (size_t i = 0; i < messages; i++) {
         print_message(i + 1, trace[i]);
         print_permits("before", &arriving, alpha, beta);
-        print_answer(take(&arriving, trace[i]));
+        print_answer(board_message_on(&arriving, trace[i]));
         print_permits("after ", &arriving, alpha, beta);
     }
 
-    build(&in_order);
+    check(board_build_on(&in_order, START));
     qsort(trace, messages, sizeof trace[0], by_stamp);
-    take_all(&in_order, trace, messages);
+    check(board_messages_on(&in_order, trace, messages, answers, BOARD_LENGTH(answers)));
     printf("the same messages in the order of their stamps: %s\n",
-           same(&arriving, &in_order) ? "the same board, word for word" : "ANOTHER BOARD");
-    return same(&arriving, &in_order) ? 0 : 1;
+           same() ? "the same board, word for word" : "ANOTHER BOARD");
+    return same() ? 0 : 1;
 }

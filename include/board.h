@@ -6,27 +6,23 @@
  * least alpha rides of the set, and each ride has at least beta operators of it. The level of an operator or ride in
  * row alpha is the largest beta from 1 whose cover (alpha, beta) holds it, or 0.
  *
- * The library has no memory of its own and asks for none: the caller lends every part of the board to each call, as a
- * pointer to its first place and the number of its places. A board of 200 operators and 60 rides in static memory, a
- * message, and a dispatch permit for one ride:
+ * The library has no memory of its own and asks for none: the caller lends every part of the board to each call. A
+ * board of 200 operators and 60 rides in static memory, a message, and a dispatch permit for one ride:
  *
- *     static struct {
- *         BoardHead head;
- *         uint16_t operators[BOARD_PAIR_PLACES(200, 60)], rides[BOARD_PAIR_PLACES(200, 60)];
- *         uint32_t stamps[BOARD_STAMP_PLACES(200, 60)];
- *         uint16_t index[BOARD_INDEX_PLACES(200, 60)], marks[BOARD_MARK_PLACES(200, 60)];
- *     } b = {{200, 60, 0}, {0}, {0}, {0}, {0}, {0}};
+ *     BOARD_STORAGE(memory, 200, 60);
+ *     static Board board = BOARD_OVER(memory, 200, 60, 0);
+ *     static uint16_t marks[BOARD_MARK_PLACES(200, 60)];
  *
- *     uint16_t code = board_build(b.head, b.operators, BOARD_LENGTH(b.operators), b.rides, BOARD_LENGTH(b.rides), 1,
- *                                 b.stamps, BOARD_LENGTH(b.stamps), b.index, BOARD_LENGTH(b.index));
+ *     uint16_t code = board_build_on(&board, 1);
  *
  *     BoardMessage grant = {BOARD_GRANT, 17, 5, 1700000000};
- *     BoardAnswer answer = board_message(&b.head, b.operators, BOARD_LENGTH(b.operators), b.rides,
- *                                        BOARD_LENGTH(b.rides), b.stamps, BOARD_LENGTH(b.stamps), b.index,
- *                                        BOARD_LENGTH(b.index), grant);
+ *     BoardAnswer answer = board_message_on(&board, grant);
  *
- *     BoardCounts counts = board_query(b.head, b.index, BOARD_LENGTH(b.index), 2, 3, b.marks, BOARD_LENGTH(b.marks));
- *     int permit = counts.code == BOARD_DONE && b.marks[BOARD_RIDE_MARK(b.head.operators, 5)] == 1;
+ *     BoardCounts counts = board_query_on(&board, 2, 3, marks, BOARD_LENGTH(marks));
+ *     int permit = counts.code == BOARD_DONE && marks[BOARD_RIDE_MARK(board.head.operators, 5)] == 1;
+ *
+ * The functions that end in _on lend a Board's parts to the plain calls, which take each part as a pointer to its first
+ * place and the number of its places.
  *
  * What every call asks of its caller, and cannot check:
  * - A pointer is not null, also where the length beside it is 0; it is aligned for its type; and it stands for as many
@@ -36,9 +32,23 @@
  *
  * Everything else is checked: a call that refuses answers a number from 1 and leaves every lent word as it was. Lent
  * parts may be longer than needed; places past the needed lengths are left as they were.
+ *
+ * For firmware (docs/INTERFACE.md says more):
+ * - x86-64, System V calling convention, SSE2 and no more; no use of the red zone below the stack pointer.
+ * - Deepest stack in bytes, measured at 200 x 60 (docs/BENCHMARK.md): build 25,744, query 88, peel 27,040, message
+ *   25,824, message list 25,920.
+ * - No writable data; of the program it needs memcpy, memmove and memset at most.
+ * - A reset in the middle of a call leaves a mixture of old and new words: build again from a pair table, and send the
+ *   messages again.
+ * - Time grows with rides x rides x (operators + rides) for build and message, with operators + rides for a query, and
+ *   with steps x (operators + rides) for a peel.
  */
 #ifndef BOARD_H
 #define BOARD_H
+
+#if !defined(__x86_64__) || defined(_WIN32) || defined(__CYGWIN__) || defined(__ILP32__)
+#error "board.h: libboard.a is for x86-64 with the System V calling convention and 64-bit pointers"
+#endif
 
 #include <stddef.h>
 #include <stdint.h>
@@ -46,6 +56,12 @@
 #ifdef __cplusplus
 extern "C" {
 #endif
+
+/* The version of this header (docs/CHANGELOG.md), as a number to compare: 1.2.3 is 10203. */
+#define BOARD_VERSION_MAJOR 1
+#define BOARD_VERSION_MINOR 1
+#define BOARD_VERSION_PATCH 0
+#define BOARD_VERSION (BOARD_VERSION_MAJOR * 10000 + BOARD_VERSION_MINOR * 100 + BOARD_VERSION_PATCH)
 
 /* Sizes */
 
@@ -84,7 +100,10 @@ extern "C" {
 /* The first word of row alpha, from 1, in the index; in a row the levels lie as marks do. */
 #define BOARD_ROW(operators, rides, alpha) (((size_t)(alpha) - 1) * ((size_t)(operators) + (size_t)(rides)))
 
-/* Document 01's numbers. The lowest one that applies is given; of 1 to 12 a call checks those named beside it below. */
+/*
+ * The numbers of document 01 (docs/SCOPE.md). The lowest one that applies is given; of 1 to 12 a call checks those
+ * named beside it below.
+ */
 enum BoardNumber {
     BOARD_DONE = 0,               /* done or taken */
     BOARD_OPERATORS_OVER = 1,     /* operators over 200 */
@@ -181,7 +200,7 @@ BOARD_ASSERT(offsetof(BoardAnswer, differ) == 2);
  * Writes zeros into both pair arrays from place `head.pairs` to operators x rides; into the stamps `start` for each
  * listed pair and 0 for every other one; into the index every level.
  *
- * Answers BOARD_DONE, or of 1 to 5 and 9 the lowest that applies. A refusal writes nothing.
+ * Answers BOARD_DONE, or of 1 to 5 and 9 the lowest that applies. A refusal leaves every lent word as it was.
  */
 uint16_t board_build(BoardHead head, uint16_t *operators, size_t operators_length, uint16_t *rides,
                      size_t rides_length, uint32_t start, uint32_t *stamps, size_t stamps_length, uint16_t *index,
@@ -196,7 +215,11 @@ uint16_t board_build(BoardHead head, uint16_t *operators, size_t operators_lengt
  * alpha above rides marks nobody.
  *
  * Answers BOARD_DONE with the counts of operators and rides marked, or of 1, 2, 3 and 11 the lowest that applies, with
- * counts 0. A refusal writes nothing.
+ * counts 0. A refusal leaves every lent word as it was.
+ *
+ * A damaged index gives permits: where a word of row alpha was set to 60,000, say, its operator or ride is marked. To
+ * check the marks, peel all ones on the same board with operators + rides steps: this gives the cover from the pair
+ * arrays alone, and its marks must equal the query's.
  */
 BoardCounts board_query(BoardHead head, const uint16_t *index, size_t index_length, uint16_t alpha, uint16_t beta,
                         uint16_t *marks, size_t marks_length);
@@ -213,7 +236,7 @@ BoardCounts board_query(BoardHead head, const uint16_t *index, size_t index_leng
  * Answers BOARD_DONE with BOARD_SETTLED when nobody falls short, or with BOARD_UNSETTLED exactly if all allowed steps
  * were taken and somebody still falls short, and with the steps taken. Settled marks are the largest set inside the
  * marks that came in; from all ones that is cover (alpha, beta). Or of 1 to 5, 11 and 12 the lowest that applies, with
- * settled and steps 0. A refusal writes nothing.
+ * settled and steps 0. A refusal leaves every lent word as it was.
  */
 BoardPeeled board_peel(BoardHead head, const uint16_t *operators, size_t operators_length, const uint16_t *rides,
                        size_t rides_length, uint16_t *marks, size_t marks_length, uint16_t alpha, uint16_t beta,
@@ -230,7 +253,7 @@ BoardPeeled board_peel(BoardHead head, const uint16_t *operators, size_t operato
  * never granted is taken too, for its stamp.
  *
  * Answers BOARD_DONE with the number of index words that differ before and after, or of 1 to 10 the lowest that
- * applies, with count 0. A refusal writes nothing.
+ * applies, with count 0. A refusal leaves every lent word as it was.
  */
 BoardAnswer board_message(BoardHead *head, uint16_t *operators, size_t operators_length, uint16_t *rides,
                           size_t rides_length, uint32_t *stamps, size_t stamps_length, uint16_t *index,
@@ -242,17 +265,90 @@ BoardAnswer board_message(BoardHead *head, uint16_t *operators, size_t operators
  * Reads the whole board and the messages. The answer list needs at least as many places as the message list.
  *
  * Writes what each taken message writes, and each message's number to its own place of the answer list. A refused
- * message writes only that number and does not stop the next.
+ * message leaves the board as it was and does not stop the next.
  *
  * Answers BOARD_DONE, or of 1 to 6 the lowest that applies to the board before the first message. Such a refusal
- * refuses the whole list: it writes nothing, and no answer.
+ * refuses the whole list and leaves every lent word as it was, the answer list too.
  */
 uint16_t board_messages(BoardHead *head, uint16_t *operators, size_t operators_length, uint16_t *rides,
                         size_t rides_length, uint32_t *stamps, size_t stamps_length, uint16_t *index,
                         size_t index_length, const BoardMessage *messages, size_t messages_length, uint16_t *answers,
                         size_t answers_length);
 
-/* The text of a number in document 01. */
+/*
+ * A board as one thing: its head, and each part with its length. Keep one Board for one board: a copy has a head of its
+ * own, and misses the pair count that a message leaves.
+ */
+typedef struct Board {
+    BoardHead head;
+    uint16_t *operators;
+    size_t operators_length;
+    uint16_t *rides;
+    size_t rides_length;
+    uint32_t *stamps;
+    size_t stamps_length;
+    uint16_t *index;
+    size_t index_length;
+} Board;
+
+/*
+ * Declares static storage for the parts of a board, all zeros where no initialiser stands behind it. With one, here for
+ * the pairs (0, 5), (3, 5) and (17, 4):
+ *
+ *     BOARD_STORAGE(memory, 200, 60) = {{0, 3, 17}, {5, 5, 4}, {0}, {0}};
+ */
+#define BOARD_STORAGE(name, operator_count, ride_count)                                 \
+    static struct {                                                                     \
+        uint16_t operators[BOARD_ARRAY(BOARD_PAIR_PLACES(operator_count, ride_count))]; \
+        uint16_t rides[BOARD_ARRAY(BOARD_PAIR_PLACES(operator_count, ride_count))];     \
+        uint32_t stamps[BOARD_ARRAY(BOARD_STAMP_PLACES(operator_count, ride_count))];   \
+        uint16_t index[BOARD_ARRAY(BOARD_INDEX_PLACES(operator_count, ride_count))];    \
+    } name
+
+/* An array has a place at least, also where a board needs none. */
+#define BOARD_ARRAY(places) ((places) == 0 ? 1 : (places))
+
+/* The initialiser of a Board over such storage. Storage for a smaller board is too short: the calls answer 3. */
+#define BOARD_OVER(storage, operator_count, ride_count, pair_count) \
+    {                                                               \
+        {operator_count, ride_count, pair_count},                   \
+        (storage).operators, BOARD_LENGTH((storage).operators),     \
+        (storage).rides, BOARD_LENGTH((storage).rides),             \
+        (storage).stamps, BOARD_LENGTH((storage).stamps),           \
+        (storage).index, BOARD_LENGTH((storage).index)              \
+    }
+
+/* Each call over a Board: the plain call with the parts of the board. */
+
+static inline uint16_t board_build_on(const Board *board, uint32_t start) {
+    return board_build(board->head, board->operators, board->operators_length, board->rides, board->rides_length, start,
+                       board->stamps, board->stamps_length, board->index, board->index_length);
+}
+
+static inline BoardCounts board_query_on(const Board *board, uint16_t alpha, uint16_t beta, uint16_t *marks,
+                                         size_t marks_length) {
+    return board_query(board->head, board->index, board->index_length, alpha, beta, marks, marks_length);
+}
+
+static inline BoardPeeled board_peel_on(const Board *board, uint16_t *marks, size_t marks_length, uint16_t alpha,
+                                        uint16_t beta, uint16_t steps) {
+    return board_peel(board->head, board->operators, board->operators_length, board->rides, board->rides_length, marks,
+                      marks_length, alpha, beta, steps);
+}
+
+static inline BoardAnswer board_message_on(Board *board, BoardMessage message) {
+    return board_message(&board->head, board->operators, board->operators_length, board->rides, board->rides_length,
+                         board->stamps, board->stamps_length, board->index, board->index_length, message);
+}
+
+static inline uint16_t board_messages_on(Board *board, const BoardMessage *messages, size_t messages_length,
+                                         uint16_t *answers, size_t answers_length) {
+    return board_messages(&board->head, board->operators, board->operators_length, board->rides, board->rides_length,
+                          board->stamps, board->stamps_length, board->index, board->index_length, messages,
+                          messages_length, answers, answers_length);
+}
+
+/* The text of a number. */
 static inline const char *board_text(uint16_t code) {
     switch (code) {
     case BOARD_DONE:
@@ -284,7 +380,7 @@ static inline const char *board_text(uint16_t code) {
     case BOARD_INPUT_LENGTH_WRONG:
         return "program: input length wrong";
     default:
-        return "no number of document 01";
+        return "no number of the board";
     }
 }
 
