@@ -3,36 +3,46 @@
 //! type. So no call here is `unsafe`.
 
 use crate::exported;
-use crate::Refusal;
+use crate::{Answers, Refusal};
 
 /// Head: the sizes, and the number of pairs.
 #[derive(Clone, Copy, Debug, Default, PartialEq, Eq)]
 #[repr(C)]
 pub struct Head {
+    /// Operators, up to 200.
     pub operators: u16,
+    /// Rides, up to 60.
     pub rides: u16,
+    /// Listed pairs, up to operators × rides.
     pub pairs: u16,
 }
 
-/// The kinds of a message.
+/// The kind of a message that clears an operator for a ride.
 pub const GRANT: u16 = 1;
+/// The kind of a message that takes a clearance away.
 pub const WITHDRAWAL: u16 = 2;
 
 /// Message: a grant or a withdrawal of one pair. The kind is a number, since a radio can send any.
 #[derive(Clone, Copy, Debug, Default, PartialEq, Eq)]
 #[repr(C)]
 pub struct Message {
+    /// [`GRANT`] or [`WITHDRAWAL`]; any other is refused with 7.
     pub kind: u16,
+    /// The pair's operator, below the head's operators.
     pub operator: u16,
+    /// The pair's ride, below the head's rides.
     pub ride: u16,
+    /// When it was sent, from 1: of two messages for one pair the later has the larger stamp.
     pub stamp: u32,
 }
 
 impl Message {
+    /// A grant of a pair, sent at `stamp`.
     pub const fn grant(operator: u16, ride: u16, stamp: u32) -> Message {
         Message { kind: GRANT, operator, ride, stamp }
     }
 
+    /// A withdrawal of a pair, sent at `stamp`.
     pub const fn withdrawal(operator: u16, ride: u16, stamp: u32) -> Message {
         Message { kind: WITHDRAWAL, operator, ride, stamp }
     }
@@ -41,14 +51,18 @@ impl Message {
 /// How many operators and rides a query marked.
 #[derive(Clone, Copy, Debug, PartialEq, Eq)]
 pub struct Counts {
+    /// Operators marked.
     pub operators: u16,
+    /// Rides marked.
     pub rides: u16,
 }
 
 /// Whether a peel settled, and the steps that it took.
 #[derive(Clone, Copy, Debug, PartialEq, Eq)]
 pub struct Peeled {
+    /// Nobody falls short. Where it is false, all allowed steps were taken and somebody still does.
     pub settled: bool,
+    /// Steps taken, at most those allowed.
     pub steps: u16,
 }
 
@@ -144,17 +158,17 @@ pub fn message(
     Ok(answer.differ)
 }
 
-/// Message list: takes messages in order; the number of each goes to its place of the answers ([`Refusal::check`] reads
-/// it).
-pub fn messages(
+/// Message list: takes messages in order; the number of each goes to its place of the answer list. The result reads
+/// those numbers.
+pub fn messages<'a>(
     head: &mut Head,
     operators: &mut [u16],
     rides: &mut [u16],
     stamps: &mut [u32],
     index: &mut [u16],
     messages: &[Message],
-    answers: &mut [u16],
-) -> Result<(), Refusal> {
+    answers: &'a mut [u16],
+) -> Result<Answers<'a>, Refusal> {
     Refusal::check(unsafe {
         exported::board_messages(
             head,
@@ -171,5 +185,6 @@ pub fn messages(
             answers.as_mut_ptr(),
             answers.len(),
         )
-    })
+    })?;
+    Ok(Answers::new(&answers[..messages.len()]))
 }

@@ -1,33 +1,48 @@
 //! The library's functions as `include/board.h` declares them, for tests of the library itself: users want
 //! [`Board`](crate::Board), or the calls of this package over slices. Nothing checks these declarations against the
 //! library's source.
+//!
+//! # Safety
+//! `docs/INTERFACE.md` lists under "Memory" what a call cannot check and its caller must see to.
 
 use crate::calls::{Head, Message};
 
+/// What a query answers. Beside a refusal the counts are 0.
 #[derive(Clone, Copy, Debug, PartialEq, Eq)]
 #[repr(C)]
 pub struct Counts {
+    /// Document 01's number.
     pub code: u16,
+    /// Operators marked.
     pub operators: u16,
+    /// Rides marked.
     pub rides: u16,
 }
 
+/// What a peel answers. Beside a refusal the others are 0.
 #[derive(Clone, Copy, Debug, PartialEq, Eq)]
 #[repr(C)]
 pub struct Peeled {
+    /// Document 01's number.
     pub code: u16,
+    /// 1 settled, 0 unsettled.
     pub settled: u16,
+    /// Steps taken.
     pub steps: u16,
 }
 
+/// What a message answers. Beside a refusal the count is 0.
 #[derive(Clone, Copy, Debug, PartialEq, Eq)]
 #[repr(C)]
 pub struct Answer {
+    /// Document 01's number.
     pub code: u16,
+    /// Index words that differ before and after.
     pub differ: u16,
 }
 
 extern "C" {
+    /// Build; [`build`](crate::build) over slices.
     pub fn board_build(
         head: Head,
         operators: *mut u16,
@@ -41,6 +56,7 @@ extern "C" {
         index_length: usize,
     ) -> u16;
 
+    /// Query; [`query`](crate::query) over slices.
     pub fn board_query(
         head: Head,
         index: *const u16,
@@ -51,6 +67,7 @@ extern "C" {
         marks_length: usize,
     ) -> Counts;
 
+    /// Peel; [`peel`](crate::peel) over slices.
     pub fn board_peel(
         head: Head,
         operators: *const u16,
@@ -64,6 +81,7 @@ extern "C" {
         steps: u16,
     ) -> Peeled;
 
+    /// Message; [`message`](crate::message) over slices.
     pub fn board_message(
         head: *mut Head,
         operators: *mut u16,
@@ -77,6 +95,7 @@ extern "C" {
         message: Message,
     ) -> Answer;
 
+    /// Message list; [`messages`](crate::messages) over slices.
     pub fn board_messages(
         head: *mut Head,
         operators: *mut u16,

@@ -1,7 +1,7 @@
 //! A board over memory that the caller lends for as long as the board lives.
 
 use crate::{build, index_places, mark_places, message, messages, pair_places, peel, query};
-use crate::{Counts, Head, Message, Peeled, Refusal, OPERATORS_MOST, RIDES_MOST};
+use crate::{Answers, Counts, Head, Message, Peeled, Refusal, OPERATORS_MOST, RIDES_MOST};
 
 const PAIR_PLACES: usize = pair_places(OPERATORS_MOST, RIDES_MOST);
 const INDEX_PLACES: usize = index_places(OPERATORS_MOST, RIDES_MOST);
@@ -10,9 +10,13 @@ const MARK_PLACES: usize = mark_places(OPERATORS_MOST, RIDES_MOST);
 /// The parts of a board, lent. Each may be longer than the board needs.
 #[derive(Debug)]
 pub struct Parts<'m> {
+    /// The operator numbers of the pairs, [`pair_places`] long.
     pub operators: &'m mut [u16],
+    /// The ride numbers of the pairs, [`pair_places`] long.
     pub rides: &'m mut [u16],
+    /// The stamp of each pair, listed or not, [`pair_places`] long.
     pub stamps: &'m mut [u32],
+    /// The levels, [`index_places`] long.
     pub index: &'m mut [u16],
 }
 
@@ -25,6 +29,7 @@ pub struct Memory {
 }
 
 impl Memory {
+    /// Memory filled with zeros. It holds no board until one is built in it.
     pub const fn new() -> Memory {
         Memory {
             operators: [0; PAIR_PLACES],
@@ -34,6 +39,7 @@ impl Memory {
         }
     }
 
+    /// Lends every part in its whole length.
     pub fn parts(&mut self) -> Parts<'_> {
         Parts {
             operators: &mut self.operators,
@@ -50,8 +56,8 @@ impl Default for Memory {
     }
 }
 
-/// A board that was built. Its memory is written by its own calls alone, so that of 1 to 6 only a list of the caller's
-/// that is too short (3) refuses a call.
+/// A board in lent memory. While it lives its own calls alone write that memory, so that of 1 to 6 only a list of the
+/// caller's that is too short (3) refuses a call.
 #[derive(Debug)]
 pub struct Board<'m> {
     head: Head,
@@ -78,6 +84,7 @@ impl<'m> Board<'m> {
         Ok(Board { head, parts })
     }
 
+    /// The sizes and the pair count as they are now. With [`words`](Board::words) it is what to store of a board.
     pub fn head(&self) -> Head {
         self.head
     }
@@ -101,7 +108,7 @@ impl<'m> Board<'m> {
         in_range.then(|| &self.parts.index[(alpha as usize - 1) * width..alpha as usize * width])
     }
 
-    /// The parts to the lengths that the board uses.
+    /// The parts to the lengths that the board uses: operators, rides, stamps, index.
     pub fn words(&self) -> (&[u16], &[u16], &[u32], &[u16]) {
         let places = pair_places(self.head.operators, self.head.rides);
         let words = index_places(self.head.operators, self.head.rides);
@@ -109,31 +116,31 @@ impl<'m> Board<'m> {
         (&parts.operators[..places], &parts.rides[..places], &parts.stamps[..places], &parts.index[..words])
     }
 
-    /// Query, with marks of the caller's.
+    /// Query: writes the marks of cover (alpha, beta), and counts them.
     pub fn query(&self, alpha: u16, beta: u16, marks: &mut [u16]) -> Result<Counts, Refusal> {
         query(self.head, self.parts.index, alpha, beta, marks)
     }
 
-    /// Query: cover (alpha, beta).
+    /// Cover (alpha, beta), with marks of its own.
     pub fn cover(&self, alpha: u16, beta: u16) -> Result<Cover, Refusal> {
         let mut marks = [0; MARK_PLACES];
         let counts = self.query(alpha, beta, &mut marks)?;
         Ok(Cover { head: self.head, counts, marks })
     }
 
-    /// Peel, from marks of the caller's.
+    /// Peel: clears the marks of those that fall short, in at most `steps` steps. It does not read the index.
     pub fn peel(&self, marks: &mut [u16], alpha: u16, beta: u16, steps: u16) -> Result<Peeled, Refusal> {
         peel(self.head, self.parts.operators, self.parts.rides, marks, alpha, beta, steps)
     }
 
-    /// Message; the number of index words that differ before and after.
+    /// Takes one message; the number of index words that differ before and after.
     pub fn message(&mut self, one: Message) -> Result<u16, Refusal> {
         let parts = &mut self.parts;
         message(&mut self.head, parts.operators, parts.rides, parts.stamps, parts.index, one)
     }
 
-    /// Message list; the number of each message goes to its place of the answers.
-    pub fn messages(&mut self, list: &[Message], answers: &mut [u16]) -> Result<(), Refusal> {
+    /// Takes a list of messages in order, over an answer list at least as long.
+    pub fn messages<'a>(&mut self, list: &[Message], answers: &'a mut [u16]) -> Result<Answers<'a>, Refusal> {
         let parts = &mut self.parts;
         messages(&mut self.head, parts.operators, parts.rides, parts.stamps, parts.index, list, answers)
     }
@@ -148,14 +155,17 @@ pub struct Cover {
 }
 
 impl Cover {
+    /// How many operators and rides are in it.
     pub fn counts(&self) -> Counts {
         self.counts
     }
 
+    /// Whether an operator is in it; an operator that the board doesn't have is not.
     pub fn has_operator(&self, operator: u16) -> bool {
         operator < self.head.operators && self.marks[operator as usize] == 1
     }
 
+    /// Whether a ride is in it, and so may dispatch; a ride that the board doesn't have is not.
     pub fn has_ride(&self, ride: u16) -> bool {
         ride < self.head.rides && self.marks[self.head.operators as usize + ride as usize] == 1
     }

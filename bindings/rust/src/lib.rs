@@ -13,20 +13,24 @@
 //! # Ok::<(), board::Refusal>(())
 //! ```
 #![no_std]
+#![deny(missing_docs)]
 
+mod answers;
 mod calls;
 pub mod exported;
 mod held;
 mod refusal;
 
+pub use answers::Answers;
 pub use calls::{build, message, messages, peel, query};
 pub use calls::{Counts, Head, Message, Peeled};
 pub use calls::{GRANT, WITHDRAWAL};
 pub use held::{Board, Cover, Memory, Parts};
 pub use refusal::Refusal;
 
-/// The most operators, and the most rides, of a board.
+/// The most operators of a board.
 pub const OPERATORS_MOST: u16 = 200;
+/// The most rides of a board.
 pub const RIDES_MOST: u16 = 60;
 
 /// The length of each pair array, and of the stamps.

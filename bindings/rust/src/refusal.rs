@@ -55,7 +55,7 @@ impl Refusal {
         self as u16
     }
 
-    /// What an answer number says: 0 is done or taken. As each place of an answer list holds one.
+    /// What an answer number says: 0 is done or taken.
     ///
     /// # Panics
     /// Where document 01 has no such number. No call answers one.

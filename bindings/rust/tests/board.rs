@@ -86,16 +86,18 @@ fn a_list_is_its_messages() {
     let (mut memory, mut other) = (Memory::new(), Memory::new());
     let mut board = sample(&mut memory, 5);
     let mut answers = [77; 5];
-    assert_eq!(board.messages(&list, &mut answers), Ok(()));
-    assert_eq!(answers, [0, 10, 7, 0, 77]);
+    let read = board.messages(&list, &mut answers).unwrap();
+    assert!(read.iter().eq([Ok(()), Err(Refusal::NotLater), Err(Refusal::KindUnknown), Ok(())]));
+    assert_eq!((read.get(1), read.get(3), read.get(4)), (Some(Err(Refusal::NotLater)), Some(Ok(())), None));
     let mut one_by_one = sample(&mut other, 5);
-    for (message, answer) in list.into_iter().zip(answers) {
-        assert_eq!(one_by_one.message(message).map(|_| ()), Refusal::check(answer));
+    for (message, answer) in list.into_iter().zip(read) {
+        assert_eq!(one_by_one.message(message).map(|_| ()), answer);
     }
+    assert_eq!(answers, [0, 10, 7, 0, 77]);
     assert_eq!(board.head(), one_by_one.head());
     assert_eq!(board.words(), one_by_one.words());
     assert_eq!(board.messages(&list, &mut answers[..3]), Err(Refusal::PartShort));
-    assert_eq!(board.messages(&[], &mut []), Ok(()));
+    assert_eq!(board.messages(&[], &mut []).unwrap().iter().len(), 0);
 }
 
 #[test]
