@@ -84,6 +84,18 @@ impl<'m> Board<'m> {
         Ok(Board { head, parts })
     }
 
+    /// Takes up the board that stands in lent memory, as after a restart, with the head that was stored beside it.
+    /// Writes nothing.
+    ///
+    /// Refuses with 1 to 6. They say nothing of the index, nor of a stamp that is not 0. A damaged index gives wrong
+    /// covers until a taken message fills it anew; a [`peel`](Board::peel) from all ones finds a cover without it.
+    pub fn attach(parts: Parts<'m>, head: Head) -> Result<Board<'m>, Refusal> {
+        let mut board = Board { head, parts };
+        // A list call checks the board before its first message; this one has none.
+        board.messages(&[], &mut [])?;
+        Ok(board)
+    }
+
     /// The sizes and the pair count as they are now. With [`words`](Board::words) it is what to store of a board.
     pub fn head(&self) -> Head {
         self.head

@@ -1,0 +1,96 @@
+//! `Board::attach`: a stored board is taken up and goes on, or is refused with 1 to 6.
+
+mod lent;
+
+use board::*;
+use lent::Lent;
+
+const PAIRS: [(u16, u16); 7] = [(0, 0), (0, 1), (1, 0), (1, 1), (2, 1), (2, 2), (3, 2)];
+const LENGTHS: [usize; 4] = [12, 12, 12, 21];
+
+/// Document 01's board in parts longer than it needs, and its head.
+fn stored() -> (Lent, Head) {
+    let mut lent = Lent::new(LENGTHS.map(|length| length + 2));
+    let head = Board::build(lent.parts(), 4, 3, &PAIRS, 5).unwrap().head();
+    (lent, head)
+}
+
+/// A board whose head and words were copied to other memory answers as the one that went on, before and after messages.
+#[test]
+fn the_board_goes_on() {
+    let (mut lent, _) = stored();
+    let mut board = Board::attach(lent.parts(), Head { operators: 4, rides: 3, pairs: 7 }).unwrap();
+    board.message(Message::grant(3, 1, 9)).unwrap();
+    let head = board.head();
+    let (operators, rides, stamps, index) = board.words();
+    let mut copy =
+        Lent { operators: operators.to_vec(), rides: rides.to_vec(), stamps: stamps.to_vec(), index: index.to_vec() };
+    let before = copy.clone();
+    let mut attached = Board::attach(copy.parts(), head).unwrap();
+    assert_eq!((attached.head(), head.pairs), (head, 8));
+    for message in
+        [None, Some(Message::withdrawal(0, 0, 4)), Some(Message::withdrawal(0, 0, 6)), Some(Message::grant(3, 0, 7))]
+    {
+        if let Some(one) = message {
+            assert_eq!(attached.message(one), board.message(one));
+        }
+        assert_eq!((attached.head(), attached.words()), (board.head(), board.words()));
+        for (alpha, beta) in (1..5).flat_map(|alpha| (1..6).map(move |beta| (alpha, beta))) {
+            assert_eq!(attached.cover(alpha, beta), board.cover(alpha, beta));
+        }
+    }
+    assert_ne!(copy, before);
+}
+
+/// Nothing is written by an attach, taken or refused, and each of 1 to 6 refuses, the lowest that applies.
+#[test]
+fn refusals() {
+    let (lent, head) = stored();
+    let attach = |mut lent: Lent, lengths, head| {
+        let before = lent.clone();
+        let answer = Board::attach(lent.first(lengths), head).map(|board| board.head());
+        assert_eq!(lent, before);
+        answer
+    };
+    let whole = lent.lengths();
+    assert_eq!(attach(lent.clone(), whole, head), Ok(head));
+    assert_eq!(attach(lent.clone(), LENGTHS, head), Ok(head));
+    assert_eq!(attach(lent.clone(), whole, Head { operators: 201, ..head }), Err(Refusal::OperatorsOver));
+    assert_eq!(attach(lent.clone(), whole, Head { rides: 61, ..head }), Err(Refusal::RidesOver));
+    for part in 0..4 {
+        let mut lengths = LENGTHS;
+        lengths[part] -= 1;
+        assert_eq!(attach(lent.clone(), lengths, head), Err(Refusal::PartShort));
+    }
+    assert_eq!(attach(lent.clone(), whole, Head { pairs: 13, ..head }), Err(Refusal::PairsOver));
+    assert_eq!(attach(lent.clone(), whole, Head { pairs: 8, ..head }), Err(Refusal::PairMisplaced));
+    let mut damaged = lent.clone();
+    damaged.rides[6] = 3;
+    assert_eq!(attach(damaged, whole, head), Err(Refusal::PairMisplaced));
+    let mut damaged = lent;
+    damaged.stamps[3 * 3 + 2] = 0;
+    assert_eq!(attach(damaged, whole, head), Err(Refusal::StampMissing));
+}
+
+/// Memory that no board was built in holds none.
+#[test]
+fn zeros() {
+    let mut memory = Memory::new();
+    let head = Head { operators: 4, rides: 3, pairs: 1 };
+    assert_eq!(Board::attach(memory.parts(), head).map(|_| ()), Err(Refusal::StampMissing));
+}
+
+/// A damaged index is taken up: covers are wrong, a peel from all ones is right, and the next taken message fills it anew.
+#[test]
+fn a_damaged_index() {
+    let (mut lent, head) = stored();
+    lent.index[..21].fill(9);
+    let mut board = Board::attach(lent.parts(), head).unwrap();
+    assert_eq!(board.cover(2, 2).unwrap().counts(), Counts { operators: 4, rides: 3 });
+    let mut marks = [1; 7];
+    assert_eq!(board.peel(&mut marks, 2, 2, u16::MAX), Ok(Peeled { settled: true, steps: 3 }));
+    assert_eq!(marks, [1, 1, 0, 0, 1, 1, 0]);
+    assert_eq!(board.message(Message::grant(0, 0, 6)), Ok(21));
+    assert_eq!(board.cover(2, 2).unwrap().counts(), Counts { operators: 2, rides: 2 });
+    assert!(board.words().3 == [3, 3, 3, 2, 2, 3, 2, 2, 2, 1, 0, 2, 2, 1, 0, 0, 0, 0, 0, 0, 0]);
+}
