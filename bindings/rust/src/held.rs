@@ -20,6 +20,35 @@ pub struct Parts<'m> {
     pub index: &'m mut [u16],
 }
 
+impl Parts<'_> {
+    /// The lowest number that a build of these pairs gives. The exported build reads the pairs in the pair arrays; this
+    /// one reads them before they are written there.
+    fn check_build(&self, operators: u16, rides: u16, pairs: &[(u16, u16)], start: u32) -> Result<(), Refusal> {
+        let places = pair_places(operators, rides);
+        let shortest = self.operators.len().min(self.rides.len()).min(self.stamps.len());
+        if OPERATORS_MOST < operators {
+            return Err(Refusal::OperatorsOver);
+        }
+        if RIDES_MOST < rides {
+            return Err(Refusal::RidesOver);
+        }
+        if shortest < places || self.index.len() < index_places(operators, rides) {
+            return Err(Refusal::PartShort);
+        }
+        if places < pairs.len() {
+            return Err(Refusal::PairsOver);
+        }
+        let in_range = pairs.iter().all(|&(operator, ride)| operator < operators && ride < rides);
+        if !in_range || !pairs.windows(2).all(|two| two[0] < two[1]) {
+            return Err(Refusal::PairMisplaced);
+        }
+        if start == 0 {
+            return Err(Refusal::StampZero);
+        }
+        Ok(())
+    }
+}
+
 /// Memory for the parts of any board, up to 200 operators and 60 rides. `new` is const, so that it can stand in a static.
 pub struct Memory {
     operators: [u16; PAIR_PLACES],
@@ -65,8 +94,10 @@ pub struct Board<'m> {
 }
 
 impl<'m> Board<'m> {
-    /// Builds a board of these pairs, strictly ascending, in lent memory. A refused build leaves the pairs written in the
-    /// first places of the pair arrays, and everything else as it was.
+    /// Builds a board of these pairs, strictly ascending by operator and then ride, in lent memory. They count as granted
+    /// at the stamp `start`, from 1.
+    ///
+    /// Refuses with 1 to 5 and 9. A board that stood in the memory is then as it was, and [`Board::attach`] takes it up.
     pub fn build(
         parts: Parts<'m>,
         operators: u16,
@@ -74,11 +105,10 @@ impl<'m> Board<'m> {
         pairs: &[(u16, u16)],
         start: u32,
     ) -> Result<Board<'m>, Refusal> {
-        let count = u16::try_from(pairs.len()).unwrap_or(u16::MAX);
-        let head = Head { operators, rides, pairs: count };
-        let places = parts.operators.iter_mut().zip(parts.rides.iter_mut()).take(pair_places(operators, rides));
-        for ((operator, ride), pair) in places.zip(pairs) {
-            (*operator, *ride) = *pair;
+        parts.check_build(operators, rides, pairs, start)?;
+        let head = Head { operators, rides, pairs: pairs.len() as u16 };
+        for (place, pair) in pairs.iter().enumerate() {
+            (parts.operators[place], parts.rides[place]) = *pair;
         }
         build(head, parts.operators, parts.rides, start, parts.stamps, parts.index)?;
         Ok(Board { head, parts })

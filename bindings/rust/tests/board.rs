@@ -100,23 +100,6 @@ fn a_list_is_its_messages() {
     assert_eq!(board.messages(&[], &mut []).unwrap().iter().len(), 0);
 }
 
-#[test]
-fn refused_builds() {
-    let mut memory = Memory::new();
-    let mut refused = |operators, rides, pairs: &[(u16, u16)], start| {
-        Board::build(memory.parts(), operators, rides, pairs, start).map(|board| board.head())
-    };
-    assert_eq!(refused(201, 61, &[], 1), Err(Refusal::OperatorsOver));
-    assert_eq!(refused(200, 61, &[], 1), Err(Refusal::RidesOver));
-    assert_eq!(refused(1, 1, &[(0, 0), (0, 1)], 1), Err(Refusal::PairsOver));
-    assert_eq!(refused(1, 1, &[(0, 0); 70_000], 1), Err(Refusal::PairsOver));
-    assert_eq!(refused(2, 2, &[(0, 1), (0, 1)], 1), Err(Refusal::PairMisplaced));
-    assert_eq!(refused(2, 2, &[(2, 0)], 1), Err(Refusal::PairMisplaced));
-    assert_eq!(refused(2, 2, &[(0, 1)], 0), Err(Refusal::StampZero));
-    assert_eq!(refused(200, 60, &[], 1), Ok(Head { operators: 200, rides: 60, pairs: 0 }));
-    assert_eq!(refused(0, 0, &[], 1), Ok(Head { operators: 0, rides: 0, pairs: 0 }));
-}
-
 /// A part too short by one place, each in turn; and places past the needed length.
 #[test]
 fn lengths() {
