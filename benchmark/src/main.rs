@@ -118,10 +118,12 @@ impl Line {
 fn run(case: &Case) -> Vec<Line> {
     let (n, m) = (case.operators, case.rides);
     let line = |call, times| Line { call, operators: n, rides: m, pairs: case.pairs.len(), times };
+    let tell = |call| eprintln!("measures {call}, {n} × {m}, {} pairs", case.pairs.len());
     let mut lines = Vec::new();
     let mut memory = Box::new(Memory::new());
 
     // Build. The library's and (b)'s memory is lent and the pairs stand in it, (a) makes its lists of the pairs.
+    tell("build");
     let mut tables = Tables::new(n, m, &case.pairs);
     let places = n as usize * m as usize;
     let (mut operators, mut rides) = (tables.operator_numbers.clone(), tables.ride_numbers.clone());
@@ -140,6 +142,7 @@ fn run(case: &Case) -> Vec<Line> {
     lines.push(line("build", times));
 
     // Query, after the build. Both read the board's index and write the same marks.
+    tell("query");
     let mut board = Board::build(memory.parts(), n, m, &case.pairs, START).unwrap();
     let (alpha, beta) = limits(case, &board);
     let marks = RefCell::new(vec![0; case.nodes()]);
@@ -161,6 +164,7 @@ fn run(case: &Case) -> Vec<Line> {
     lines.push(line("query", times));
 
     // Peel, from all ones, with all steps allowed.
+    tell("peel");
     let (mut marks, mut same) = (Vec::new(), Vec::new());
     let (mut peeled, mut listed, mut again) = (None, None, None);
     let times = measure(
@@ -183,6 +187,7 @@ fn run(case: &Case) -> Vec<Line> {
     lines.push(line("peel", times));
 
     // Message: all are taken.
+    tell("message");
     let mut next = [0; 3];
     let mut turn = |program: usize| {
         next[program] += 1;
@@ -266,5 +271,6 @@ fn main() {
     lines.sort_by_key(|line| ["build", "query", "peel", "message"].iter().position(|call| *call == line.call));
     print_lines(&lines);
     println!("Memory at 200 × 60:\n");
+    eprintln!("measures stack and lent memory");
     memory::print();
 }

@@ -27,14 +27,11 @@ fn print_totals(totals: &Totals) {
 }
 
 fn main() {
-    let mut words = std::env::args().skip(1);
-    let mut number = |what: &str| {
-        words.next().map(|word| word.parse::<u64>().unwrap_or_else(|_| panic!("{what} is not a number: {word}")))
-    };
-    let seconds = number("the number of seconds").unwrap_or(45);
+    let mut words = std::env::args().skip(1).map(|word| word.parse::<u64>().expect("a whole number"));
+    let seconds = words.next().filter(|&seconds| seconds != 0).expect("SECONDS from 1 (differential/run --help)");
     let clock =
         || SystemTime::now().duration_since(UNIX_EPOCH).map_or(1, |time| time.as_nanos() as u64 % 1_000_000_000);
-    let seed = number("the seed").unwrap_or_else(clock);
+    let seed = words.next().unwrap_or_else(clock);
     println!("seed {seed}, {seconds} seconds");
 
     let mut numbers = Numbers::new(seed);
