@@ -9,7 +9,13 @@ fn deepest() -> [usize; 5] {
     let (mut memory, mut other) = (Box::new(Memory::new()), Box::new(Memory::new()));
     for pairs in [1, 3000, 6000, 12000] {
         let case = Case::new(200, 60, pairs, 24);
-        let built = stack::deepest(|| assert!(Board::build(other.parts(), 200, 60, &case.pairs, START).is_ok()));
+        let (head, parts) = (Head { operators: 200, rides: 60, pairs: pairs as u16 }, other.parts());
+        for (place, pair) in case.pairs.iter().enumerate() {
+            (parts.operators[place], parts.rides[place]) = *pair;
+        }
+        let built = stack::deepest(|| {
+            assert!(board::build(head, parts.operators, parts.rides, START, parts.stamps, parts.index).is_ok())
+        });
         let mut board = Board::build(memory.parts(), 200, 60, &case.pairs, START).unwrap();
         let (alpha, beta) = limits(&case, &board);
         let (mut marks, mut answers) = ([1; 260], [0; 12]);
