@@ -1,52 +1,23 @@
--- A peel: what it starts from, and the whole outcome. Assumes nothing.
-use mathlib.Core.Path.{_≡_, refl, sym, ap, ap₂, _∙_}
+-- A peel: refused, or the whole outcome. Assumes nothing.
+use mathlib.Core.Path.{_≡_, refl, sym, ap₂}
 use mathlib.Core.Logic.{_≢_}
 use mathlib.Core.List.{List}
-use Prim.Native.Nat.{ℕ, zero, suc, _+_, _*_, _≤_, _<_}
+use Prim.Native.Nat.{ℕ, zero, suc, _≤_, _<_}
 use native.Mathlib.Omega.{arith}
 use lib.Dec.{T, ltb}
 use lib.ListN.{length, getD}
 use Rattle.model.specs.declared.Head.{Head}
 use Rattle.model.specs.declared.Peeled.{Peeled}
-use Rattle.model.specs.Count.{bit}
 use Rattle.model.specs.Graph.{limits}
-use Rattle.model.specs.Layout.{pair-places, mark-places, listed, graph}
+use Rattle.model.specs.Layout.{pair-places, mark-places, graph}
 use Rattle.model.specs.Refusal.{refused-1, refused-2, refused-4, refused-5, refused-11, refused-12, peel-refusal}
 use Rattle.model.specs.Calls.{peeled, board-peel}
 use Rattle.model.proofs.Count.{some-holds}
-use Rattle.model.proofs.Refusal.{lowest-none, enough}
-use Rattle.tables.specs.Table.{AcceptedPairs}
-use Rattle.levels.proofs.Filled.{listed-swap}
-use Rattle.peeling.specs.Steps.{Ready, Gives}
+use Rattle.model.proofs.Chain.{first-none, enough}
+use Rattle.pairs.specs.Accepted.{AcceptedPairs}
+use Rattle.peeling.specs.Steps.{Gives}
 use Rattle.refusals.proofs.Chain.{short-parts, peel-long}
-use Rattle.board.specs.Words.{peel-left}
-
--- the filled tables are those that a peel wants
-module _ (h : Head) (operators rides : List ℕ) (accepted : AcceptedPairs h operators rides) (t t′ : List ℕ) (long : length t ≡ 12000) (long′ : length t′ ≡ 12000) (filled : (i j : ℕ) → i < 200 → j < 60 → getD t (i * 60 + j) 0 ≡ bit (listed (h .pairs) operators rides i j)) (filled′ : (i j : ℕ) → i < 60 → j < 200 → getD t′ (i * 200 + j) 0 ≡ bit (listed (h .pairs) rides operators i j)) where
-  pub peel-ready : (marks : List ℕ) → mark-places h ≤ length marks → ((x : ℕ) → x < mark-places h → getD marks x 0 ≤ 1) → Ready (graph h operators rides) (h .operators) (h .rides) t t′ marks
-  peel-ready marks room in-use =
-      record {
-        operators = refl;
-        rides = refl;
-        tables = record {
-          most-operators = accepted .few-operators;
-          most-rides = accepted .few-rides;
-          by-operator = record {
-            wide = accepted .few-rides;
-            size = omega (arith, accepted .few-operators);
-            bits = λ u v k l. filled u v (omega (arith, accepted .few-operators)) (omega (arith, accepted .few-rides));
-          };
-          by-ride = record {
-            wide = accepted .few-operators;
-            size = omega (arith, accepted .few-rides);
-            bits = λ v u l k. filled′ v u (omega (arith, accepted .few-rides)) (omega (arith, accepted .few-operators)) ∙ ap bit (listed-swap (h .pairs) operators rides u v);
-          };
-        };
-        room = room;
-        in-use = in-use;
-      }
-
--- ---- the outcome
+use Rattle.board.specs.Outcome.{peel-left}
 
 module _ (h : Head) (operators rides marks : List ℕ) (α β : ℕ) where
   marks-fit : (T (refused-12 h marks) → ⊥) → (x : ℕ) → x < mark-places h → getD marks x 0 ≤ 1
@@ -68,13 +39,13 @@ module _ (h : Head) (operators rides marks : List ℕ) (α β : ℕ) where
     pub peel-accepted : AcceptedPairs h operators rides × (mark-places h ≤ length marks) × ((x : ℕ) → x < mark-places h → getD marks x 0 ≤ 1)
     unfolding peel-refusal
     peel-accepted =
-        let n1 = lowest-none 0 (refused-1 h) _ none in
-        let n2 = lowest-none 1 (refused-2 h) _ (n1 .1) in
-        let n3 = lowest-none 2 (short-parts h operators rides marks) _ (n2 .1) in
-        let n4 = lowest-none 3 (refused-4 h) _ (n3 .1) in
-        let n5 = lowest-none 4 (refused-5 h operators rides) _ (n4 .1) in
-        let n6 = lowest-none 10 (refused-11 α β) _ (n5 .1) in
-        let n7 = lowest-none 11 (refused-12 h marks) _ (n6 .1) in
+        let n1 = first-none 0 (refused-1 h) _ none in
+        let n2 = first-none 1 (refused-2 h) _ (n1 .1) in
+        let n3 = first-none 2 (short-parts h operators rides marks) _ (n2 .1) in
+        let n4 = first-none 3 (refused-4 h) _ (n3 .1) in
+        let n5 = first-none 4 (refused-5 h operators rides) _ (n4 .1) in
+        let n6 = first-none 10 (refused-11 α β) _ (n5 .1) in
+        let n7 = first-none 11 (refused-12 h marks) _ (n6 .1) in
         let l = peel-long h operators rides marks (n3 .0) in
         let fit = enough (pair-places h) (h .pairs) (n4 .0) in (
           record {

@@ -2,14 +2,13 @@
 use mathlib.Core.Path.{_≡_, refl, sym, ap, ap₂, _∙_, subst}
 use mathlib.Core.Logic.{_≢_}
 use mathlib.Core.Bool.{Bool, true, false, _&&_, _||_}
-use mathlib.Core.List.{List, _++_}
+use mathlib.Core.List.{List}
 use Prim.Native.Nat.{ℕ, zero, suc, _+_, _-_, _*_, _≤_, _<_}
 use native.Mathlib.Omega.{arith}
 use native.Mathlib.Decide.{decLt}
 use lib.Dec.{T, leb, eqb}
 use borrow.Author.Tests.{eq-eqb, le-leb, lt-leb}
-use lib.ListN.{length, getD, take, drop, length-take, length-drop, length-append, List·getD-append}
-use lib.Seq.{drop-at}
+use lib.ListN.{length, getD, take, drop}
 use Rattle.model.specs.declared.Head.{Head}
 use Rattle.model.specs.declared.Counts.{Counts}
 use Rattle.model.specs.Count.{bit, count}
@@ -19,11 +18,13 @@ use Rattle.model.specs.Refusal.{refused-1, refused-2, refused-3, refused-11, qu
 use Rattle.model.specs.Calls.{query-marks, counts, board-query}
 use Rattle.model.proofs.Count.{or-left, or-right, count-ext, count-zero, length-values, getD-values}
 use Rattle.model.proofs.Store.{part-length, part-at, over-is}
-use Rattle.model.proofs.Refusal.{lowest-none, enough}
+use Rattle.model.proofs.Chain.{first-none, enough}
 use Rattle.model.proofs.Query.{query-marked}
-use Rattle.levels.proofs.Side.{row-inside}
+use Rattle.tables.proofs.Place.{row-inside}
 use Rattle.queries.specs.Marks.{RowMarked}
-use Rattle.board.specs.Words.{queried}
+use Rattle.words.specs.Filled.{filled}
+use Rattle.words.proofs.Filled.{filled-at, filled-rest, length-filled}
+use Rattle.board.specs.Outcome.{queried}
 
 -- ---- the outcome of a query that is not refused
 
@@ -69,10 +70,10 @@ query-refused h index marks α β (suc k) e n = rw (sym e, board-query)
 pub query-long : (h : Head) (index marks : List ℕ) (α β : ℕ) → query-refusal h index α β marks ≡ 0 → (h .operators ≤ 200) × (h .rides ≤ 60) × (index-places h ≤ length index) × (mark-places h ≤ length marks) × (1 ≤ α) × (1 ≤ β)
 unfolding query-refusal
 query-long h index marks α β e =
-    let n1 = lowest-none 0 (refused-1 h) _ e in
-    let n2 = lowest-none 1 (refused-2 h) _ (n1 .1) in
-    let n3 = lowest-none 2 (refused-3 (index-places h) index || refused-3 (mark-places h) marks) _ (n2 .1) in
-    let n4 = lowest-none 10 (refused-11 α β) _ (n3 .1) in (
+    let n1 = first-none 0 (refused-1 h) _ e in
+    let n2 = first-none 1 (refused-2 h) _ (n1 .1) in
+    let n3 = first-none 2 (refused-3 (index-places h) index || refused-3 (mark-places h) marks) _ (n2 .1) in
+    let n4 = first-none 10 (refused-11 α β) _ (n3 .1) in (
       enough 200 (h .operators) (n1 .0),
       enough 60 (h .rides) (n2 .0),
       enough (length index) (index-places h) (λ t. n3 .0 (or-left (refused-3 (index-places h) index) (refused-3 (mark-places h) marks) t)),
@@ -85,23 +86,20 @@ query-long h index marks α β e =
     positive k f = elim (decLt 0 k) [ yes l ↦ l | no l ↦ absurd (f (omega arith)) ]
 
 -- α above rides marks nobody
-module _ (h : Head) (index marks : List ℕ) (α β : ℕ) (none : query-refusal h index α β marks ≡ 0) (high : h .rides < α) (zeros : List ℕ) (zeros-long : length zeros ≡ length (take (mark-places h - 0) marks)) (are-zero : (i : ℕ) → i < length (take (mark-places h - 0) marks) → getD zeros i 0 ≡ 0) where
+module _ (h : Head) (index marks : List ℕ) (α β : ℕ) (none : query-refusal h index α β marks ≡ 0) (high : h .rides < α) where
   long : mark-places h ≤ length marks
   long = query-long h index marks α β none .3
-
-  zeros-w : length zeros ≡ mark-places h
-  zeros-w = zeros-long ∙ simp length-take (omega (arith, long))
 
   nobody : (x : ℕ) → (leb α (h .rides) && leb β (getD index ((α - 1) * mark-places h + x) 0)) ≡ false
   nobody x = ap (λ (b : Bool). b && leb β (getD index ((α - 1) * mark-places h + x) 0)) (lt-leb α (h .rides) high)
 
-  pub query-nobody : queried (record { code = 0; operators = 0; rides = 0 }) (zeros ++ drop (mark-places h - 0) marks) ≡ board-query h index α β marks
-  query-nobody =
-      query-counts h index marks α β none (zeros ++ drop (mark-places h - 0) marks)
-      (length-append zeros (drop (mark-places h - 0) marks) ∙ omega (arith, zeros-w, length-drop (mark-places h - 0) marks, long))
+  pub query-nobody : (marks′ : List ℕ) → marks′ ≡ filled 0 (mark-places h) 0 marks → queried (record { code = 0; operators = 0; rides = 0 }) marks′ ≡ board-query h index α β marks
+  query-nobody marks′ e =
+      query-counts h index marks α β none marks′
+      (ap length e ∙ length-filled marks 0 0 (mark-places h) (omega arith) long)
       long
-      (drop-at zeros (drop (mark-places h - 0) marks) (mark-places h) zeros-w ∙ ap (λ (k : ℕ). drop k marks) (let e : mark-places h - 0 ≡ mark-places h = omega arith in e))
-      (λ x l. List·getD-append zeros (drop (mark-places h - 0) marks) 0 x (omega (arith, zeros-w)) ∙ are-zero x (omega (arith, zeros-long, zeros-w)) ∙ sym (ap bit (nobody x)))
+      (ap (drop (mark-places h)) e ∙ filled-rest marks 0 0 (mark-places h) (omega arith) long)
+      (λ x l. ap (λ (z : List ℕ). getD z x 0) e ∙ filled-at marks 0 0 (mark-places h) (omega arith) long x (omega arith) l ∙ sym (ap bit (nobody x)))
       0
       0
       (sym (count-zero (λ (x : ℕ). leb α (h .rides) && leb β (getD index ((α - 1) * mark-places h + x) 0)) (h .operators) (λ x l t. subst T (nobody x) t)))

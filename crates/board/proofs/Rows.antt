@@ -4,13 +4,30 @@ use Prim.Native.Nat.{ℕ, _<_, _^_}
 use mathlib.Core.List.{List, [], _∷_}
 use mir.Val.{Val}
 use denote.RattleType.{RattleType}
+use denote.Builtin.{u16, u32}
 use denote.Laws.{Is}
 use denote.Struct.Laws as LL
 use Rattle.model.specs.declared.Head.{Head}
+use Rattle.model.specs.declared.Answer.{Answer}
+use Rattle.messages.specs.declared.Delivered.{Delivered}
+use Rattle.model.proofs.Answer as Q
+use Rattle.model.proofs.Answer.Laws as Q′
+use Rattle.messages.proofs.Delivered as D
+use Rattle.messages.proofs.Delivered.Laws as D′
 use Rattle.model.proofs.Head as T
 use Rattle.model.proofs.Head.Laws as T′
 use Rattle.model.proofs.Message as N
-use Rattle.board.specs.Message.{with-pairs}
+use Rattle.messages.specs.Deliver.{with-pairs}
+
+-- THE SLICES: their element types, in the order of the parameters. How many there are is written in no proof.
+abbrev pub Rs : List RattleType
+Rs = u16 ∷ u16 ∷ u32 ∷ u16 ∷ []
+
+abbrev pub An : RattleType
+An = Q.the-row
+
+abbrev pub Dl : RattleType
+Dl = D.the-row
 
 abbrev pub Hd : RattleType
 Hd = T.the-row
@@ -33,3 +50,21 @@ head-made h f = LL.owes T.the-type T′.the-laws h ((refl, f .0), ((refl, f .1 .
 -- the same with another number of pairs: what closing the head's borrow asks
 pub pairs-made : (h : Head) (p : ℕ) → HeadFits h → p < 2 ^ 16 → Is Hd (with-pairs h p) (T′.lowered (with-pairs h p) ∷ [])
 pairs-made h p f l = head-made (with-pairs h p) (f .0, (f .1 .0, l))
+
+-- whoever holds what a covered function returned knows that it fits
+abbrev pub DeliveredFits : Delivered → Type 0
+DeliveredFits r = (r .code < 2 ^ 16) × ((r .differ < 2 ^ 16) × (r .pairs < 2 ^ 16))
+
+pub delivered-fits : (r : Delivered) (vs : List Val) → Is Dl r vs → DeliveredFits r
+delivered-fits r vs g = (LL.owed D.the-type D′.the-laws r vs g .0 .1, (LL.owed D.the-type D′.the-laws r vs g .1 .0 .1, LL.owed D.the-type D′.the-laws r vs g .1 .1 .0 .1))
+
+-- its answer, at its own machine value
+abbrev pub answer-of : Delivered → Answer
+answer-of r = record { code = r .code; differ = r .differ }
+
+pub answer-made : (r : Delivered) → DeliveredFits r → Is An (answer-of r) (Q′.lowered (answer-of r) ∷ [])
+answer-made r f = LL.owes Q.the-type Q′.the-laws (answer-of r) ((refl, f .0), ((refl, f .1 .0), tt))
+
+-- what a covered function returned, at its own machine value
+pub delivered-made : (r : Delivered) (vs : List Val) → Is Dl r vs → Is Dl r (D′.lowered r ∷ [])
+delivered-made r vs g = LL.owes D.the-type D′.the-laws r (LL.owed D.the-type D′.the-laws r vs g)

@@ -1,13 +1,8 @@
 // The board's calls: build, query and peel. Each answers document 01's number, and leaves the lent parts as the definitions say.
 ghost use mathlib.Core.Path.{_≡_};
-ghost use Prim.Native.Nat.{ℕ, _<_, _≤_};
-ghost use lib.ListN.{length, getD};
-ghost use Rattle.model.specs.Graph.{limits};
-ghost use Rattle.model.specs.Layout.{lent, graph, mark-places};
-ghost use Rattle.model.specs.Calls.{board-build, board-query, peeled, board-peel};
-ghost use Rattle.tables.specs.Table.{AcceptedPairs};
-ghost use Rattle.peeling.specs.Steps.{Gives};
-ghost use Rattle.board.specs.Words.{queried, peel-left, build-left};
+ghost use Rattle.model.specs.Layout.{lent};
+ghost use Rattle.model.specs.Calls.{board-build, board-query, board-peel};
+ghost use Rattle.board.specs.Outcome.{queried, peel-left, build-left};
 
 pub mod message; // message.rt: message and message list
 
@@ -25,7 +20,10 @@ pub extern "C" fn board_build(
     stamps: &mut [u32],
     index: &mut [u16],
 ) -> u16
-    ensures { λ r. ⌜ build-left r (lent head (now (operators .exit)) (now (rides .exit)) (now (stamps .exit)) (now (index .exit))) ≡ board-build (lent head (now (operators .entry)) (now (rides .entry)) (now (stamps .entry)) (now (index .entry))) start ⌝ }
+    ensures { λ r. ⌜
+        build-left r (lent head (now (operators .exit)) (now (rides .exit)) (now (stamps .exit)) (now (index .exit)))
+        ≡ board-build (lent head (now (operators .entry)) (now (rides .entry)) (now (stamps .entry)) (now (index .entry))) start
+        ⌝ }
 {
     let number = refusals::build_number(head, operators, rides, start, stamps, index);
     if number != 0 {
@@ -35,8 +33,8 @@ pub extern "C" fn board_build(
     let pairs = head.pairs as usize;
     stamps::fill(head, operators, rides, start, stamps);
     levels::fill_index(head, operators, rides, index);
-    pairs::clear_tail(operators, pairs, places);
-    pairs::clear_tail(rides, pairs, places);
+    words::fill(operators, pairs, places, 0);
+    words::fill(rides, pairs, places, 0);
     0
 }
 
@@ -62,7 +60,7 @@ pub extern "C" fn board_query(
     let n = head.operators as usize;
     let w = n + head.rides as usize;
     if head.rides < alpha {
-        levels::clear(&mut marks[0..w]);
+        words::fill(marks, 0, w, 0);
         return Counts {
             code: 0,
             operators: 0,
@@ -71,30 +69,6 @@ pub extern "C" fn board_query(
     }
     let at = (alpha as usize - 1) * w;
     queries::mark_row(&index[at..at + w], n, beta, marks)
-}
-
-// Peels over tables of zeros.
-fn peel_over(
-    head: Head,
-    operators: &[u16],
-    rides: &[u16],
-    by_operator: &mut [u8],
-    by_ride: &mut [u8],
-    marks: &mut [u16],
-    alpha: u16,
-    beta: u16,
-    steps: u16,
-) -> Peeled
-    requires { ⌜ AcceptedPairs head (now operators) (now rides) × (length (now «by_operator») ≡ 12000) × (length (now «by_ride») ≡ 12000) × (mark-places head ≤ length (now marks)) ⌝ }
-    requires { ⌜ ((k : ℕ) → getD (now «by_operator») k 0 ≡ 0) ⌝ }
-    requires { ⌜ ((k : ℕ) → getD (now «by_ride») k 0 ≡ 0) ⌝ }
-    requires { ⌜ ((x : ℕ) → x < mark-places head → getD (now marks) x 0 ≤ 1) ⌝ }
-    ensures { λ r. ⌜ Gives (peeled (graph head (now (operators .entry)) (now (rides .entry))) (limits (graph head (now (operators .entry)) (now (rides .entry))) alpha beta) steps (now (marks .entry))) r (now (marks .exit)) ⌝ }
-{
-    let pairs = head.pairs as usize;
-    tables::fill(operators, rides, pairs, 60, 200, by_operator);
-    tables::fill(rides, operators, pairs, 200, 60, by_ride);
-    peeling::peel(head, by_operator, by_ride, marks, alpha, beta, steps)
 }
 
 // Clears, one a step, the mark of the lowest-numbered operator that falls short, else ride, at most the allowed steps.
@@ -120,12 +94,14 @@ pub extern "C" fn board_peel(
     }
     let mut by_operator = [0u8; 12000];
     let mut by_ride = [0u8; 12000];
-    peel_over(
+    let mut limits = [0u16; 260];
+    peels::peel_over(
         head,
         operators,
         rides,
         &mut by_operator,
         &mut by_ride,
+        &mut limits,
         marks,
         alpha,
         beta,

@@ -2,27 +2,27 @@
 use mathlib.Core.Path.{_≡_, refl, sym, ap, ap₂, _∙_, subst}
 use mathlib.Core.Logic.{inl, inr}
 use mathlib.Core.Bool.{Bool, true, false}
-use mathlib.Core.List.{List, [], _∷_, _++_, map, List·Memᴰ, List·Memᴰ·not-nil, List·Memᴰ·append-cases, List·Memᴰ·eq-of-singleton, Memᴰ·append-left, Memᴰ·append-right}
+use mathlib.Core.List.{List, [], _∷_, _++_, List·Memᴰ, List·Memᴰ·not-nil, List·Memᴰ·append-cases, List·Memᴰ·eq-of-singleton, Memᴰ·append-left, Memᴰ·append-right}
 use mathlib.Core.Option.{Option, none, some}
-use Prim.Native.Nat.{ℕ, zero, suc, _-_, _/_, _%_, _≤_, _<_}
+use Prim.Native.Nat.{ℕ, zero, suc, _≤_, _<_}
 use native.Mathlib.Omega.{arith}
 use native.Mathlib.Decide.{decLt}
-use lib.ListN.{length, getD, take, drop, replicate, length-append, length-map, length-replicate}
-use lib.Seq.{take-at, length-take-le, getD-take}
+use lib.ListN.{getD, take}
+use lib.Seq.{take-at, getD-take}
 use Rattle.model.specs.declared.Head.{Head}
 use Rattle.model.specs.declared.Message.{Message}
-use Rattle.model.specs.Graph.{Graph, nodes, level, index-of}
-use Rattle.model.specs.Layout.{Board, pair-places, index-places, over, listed, graph, zero-tail}
+use Rattle.model.specs.Graph.{Graph}
+use Rattle.model.specs.Layout.{Part, Operators, Rides, Board, places, over, listed, board-graph}
+use Rattle.model.specs.Contents.{Slot, Pair, slot, entry, words, board-of}
 use Rattle.model.specs.Refusal.{build-refusal}
-use Rattle.model.specs.Calls.{start-stamps, built, board-build}
-use Rattle.model.specs.Message.{pair-numbers, padded}
-use Rattle.model.proofs.Count.{test-true, test-false, length-rows}
-use Rattle.model.proofs.Pairs.{pairs-count, pairs-operators, pairs-rides, pairs-fit, listed-place, place-listed}
+use Rattle.model.specs.Calls.{start-contents, built, board-build}
+use Rattle.model.proofs.Count.{test-true, test-false}
+use Rattle.model.proofs.Pairs.{listed-place, place-listed}
 use Rattle.model.proofs.Refusal.{AcceptedTable, Valid, build-none}
+use Rattle.model.proofs.Contents.{pair-equal, Within, length-words, board-of-same}
 use Rattle.delivery.specs.Calls.{built-board}
-use Rattle.delivery.specs.Book.{grants, latest, granted, stamped, filled, written}
+use Rattle.delivery.specs.Book.{grants, latest, said, written}
 use Rattle.delivery.proofs.Latest.{Is, latest-is, AllValid}
-use Rattle.delivery.proofs.Filled.{filled-same}
 
 -- ---- the grants
 
@@ -49,15 +49,16 @@ module _ (operators rides : List ℕ) (start : ℕ) where
         | no l ↦ Memᴰ·append-right (grants n operators rides start) (List·Memᴰ.List·Memᴰ·head (ap grant (let q : i ≡ n = omega arith in q)))
       ]
 
-  -- a listed pair's latest entry is its grant
-  grants-is : (n u v : ℕ) (o : Option Message) → Is (grants n operators rides start) u v o → (listed n operators rides u v ≡ granted o) × (elim (listed n operators rides u v) [ true ↦ start | false ↦ 0 ] ≡ stamped o)
+  -- a listed pair's latest entry is its grant, and no other pair has one
+  grants-is : (n u v : ℕ) (o : Option Message) → Is (grants n operators rides start) (Pair u v) o → (listed n operators rides u v ≡ said o .gives) × (elim (listed n operators rides u v) [ true ↦ start | false ↦ 0 ] ≡ said o .stamp)
   grants-is n u v none is =
-      let e = test-false (listed n operators rides u v) (λ t. let w = listed-place n operators rides u v t in is (grant (w .0)) (grants-holds n (w .0) (w .1)) (w .2) (w .3)) in
+      let e = test-false (listed n operators rides u v) (λ t. let w = listed-place n operators rides u v t in is (grant (w .0)) (grants-holds n (w .0) (w .1)) (ap₂ Pair (w .2) (w .3))) in
       (e, ap (λ (b : Bool). elim b [ true ↦ start | false ↦ 0 ]) e)
   grants-is n u v (some e) is =
-      let w = grants-place n e (is .entry) in
-      let t = test-true (listed n operators rides u v) (place-listed n operators rides u v (w .0) (w .1) (sym (ap (λ (x : Message). x .operator) (w .2)) ∙ is .operator) (sym (ap (λ (x : Message). x .ride) (w .2)) ∙ is .ride)) in
-      (t ∙ sym (ap (λ (x : Message). granted (some x)) (w .2)), ap (λ (b : Bool). elim b [ true ↦ start | false ↦ 0 ]) t ∙ sym (ap (λ (x : Message). x .stamp) (w .2)))
+      let w = grants-place n e (is .member) in
+      let q : Pair (getD operators (w .0) 0) (getD rides (w .0) 0) ≡ Pair u v = sym (ap slot (w .2)) ∙ is .about in
+      let t = test-true (listed n operators rides u v) (place-listed n operators rides u v (w .0) (w .1) (pair-equal _ _ u v q .0) (pair-equal _ _ u v q .1)) in
+      (t ∙ sym (ap (λ (x : Message). entry x .gives) (w .2)), ap (λ (b : Bool). elim b [ true ↦ start | false ↦ 0 ]) t ∙ sym (ap (λ (x : Message). x .stamp) (w .2)))
 
 -- grants depend on the listed places alone
 pub grants-same : (o r o′ r′ : List ℕ) (start n k : ℕ) → k ≤ n → take n o ≡ take n o′ → take n r ≡ take n r′ → grants k o r start ≡ grants k o′ r′ start
@@ -74,14 +75,17 @@ module _ (b : Board) (start : ℕ) (accepted : build-refusal b start ≡ 0) wher
   h = b .head
 
   abbrev g : Graph
-  g = graph h (b .operators) (b .rides)
+  g = board-graph b
 
   pub table : AcceptedTable b
   table = build-none b start accepted .0
 
-  pub valid-grants : AllValid h (grants (h .pairs) (b .operators) (b .rides) start)
+  abbrev start-grants : List Message
+  start-grants = grants (h .pairs) (b .part Operators) (b .part Rides) start
+
+  pub valid-grants : AllValid h start-grants
   valid-grants e m =
-      let w = grants-place (b .operators) (b .rides) start (h .pairs) e m in
+      let w = grants-place (b .part Operators) (b .part Rides) start (h .pairs) e m in
       subst (Valid h) (sym (w .2))
       (record {
         kind-low = omega arith;
@@ -91,38 +95,18 @@ module _ (b : Board) (start : ℕ) (accepted : build-refusal b start ≡ 0) wher
         stamp = build-none b start accepted .1;
       })
 
-  pairs-length : h .pairs ≡ length (pair-numbers g)
-  pairs-length = pairs-count g (h .pairs) (b .operators) (b .rides) (table .pairs)
+  built-of : built-board b start ≡ board-of h (start-contents g start)
+  unfolding built-board board-build built
+  built-of =
+      let each : (p : Part) → take (places h p) (over (words h (start-contents g start) p) (b .part p)) ≡ words h (start-contents g start) p = λ p. take-at (words h (start-contents g start) p) _ (places h p) (length-words h (start-contents g start) p) in
+      rw (accepted, board-build) (λ j. record { head = board-of h (start-contents g start) .head; part = λ p. each p j })
 
-  fits : h .pairs ≤ pair-places h
-  fits = pairs-fit h (b .operators) (b .rides) (g .cleared) (table .pairs)
-
-  -- a pair array with its tail zeroed
-  tail-zeroed : (f : ℕ → ℕ) (array : List ℕ) → pair-places h ≤ length array → take (h .pairs) array ≡ map f (pair-numbers g) → take (pair-places h) (over (zero-tail h array) array) ≡ padded (pair-places h) (map f (pair-numbers g))
-  tail-zeroed f array l e =
-      let z : List ℕ = zero-tail h array in
-      take-at z (drop (length z) array) (pair-places h) (omega (arith, length-append (take (h .pairs) array) (replicate (pair-places h - h .pairs) 0), length-take-le (h .pairs) array (let q : h .pairs ≤ length array = omega (arith, fits) in q), length-replicate {A = ℕ} (pair-places h - h .pairs) 0, fits)) ∙
-      ap₂ (λ (x : List ℕ) (n : ℕ). x ++ replicate (pair-places h - n) 0) e (pairs-length ∙ sym (length-map (pair-numbers g) f))
-
-  taken : (new old : List ℕ) (n : ℕ) → length new ≡ n → take n (over new old) ≡ new
-  taken new old n e = take-at new (drop (length new) old) n e
-
-  built-filled : built-board b start ≡ filled h (g .cleared) (λ u v. elim (g .cleared u v) [ true ↦ start | false ↦ 0 ])
-  unfolding built-board board-build built filled start-stamps index-of
-  built-filled =
-      let o = tail-zeroed (λ k. k / h .rides) (b .operators) (table .operators) (pairs-operators g (h .pairs) (b .operators) (b .rides) (table .pairs) (omega (arith, fits, table .operators))) in
-      let r = tail-zeroed (λ k. k % h .rides) (b .rides) (table .rides) (pairs-rides g (h .pairs) (b .operators) (b .rides) (table .pairs) (omega (arith, fits, table .rides))) in
-      let s = taken (start-stamps g start) (b .stamps) (pair-places h) (length-rows (h .rides) (λ (u v : ℕ). elim (g .cleared u v) [ true ↦ start | false ↦ 0 ]) (h .operators)) in
-      let i = taken (index-of g) (b .index) (index-places h) (length-rows (nodes g) (λ (a x : ℕ). level g (suc a) x) (h .rides)) in
-      let n = pairs-length in
-      rw (accepted, board-build) (λ j. record { head = record { operators = h .operators; rides = h .rides; pairs = n j }; operators = o j; rides = r j; stamps = s j; index = i j })
-
-  pub built-written : built-board b start ≡ written h (grants (h .pairs) (b .operators) (b .rides) start)
+  pub built-written : built-board b start ≡ written h start-grants
   unfolding written
   built-written =
-      let es = grants (h .pairs) (b .operators) (b .rides) start in
-      let is : (u v : ℕ) → (g .cleared u v ≡ granted (latest es u v)) × (elim (g .cleared u v) [ true ↦ start | false ↦ 0 ] ≡ stamped (latest es u v)) = λ u v. grants-is (b .operators) (b .rides) start (h .pairs) u v (latest es u v) (latest-is es u v) in
-      built-filled ∙
-      filled-same h (g .cleared) (λ u v. granted (latest es u v)) (λ u v. elim (g .cleared u v) [ true ↦ start | false ↦ 0 ]) (λ u v. stamped (latest es u v))
-      (λ u v _ _. is u v .0)
-      (λ u v _ _. is u v .1)
+      built-of ∙ board-of-same h (start-contents g start) (λ t. said (latest start-grants t)) says
+    where
+      says : (t : Slot) → Within h t → start-contents g start t ≡ said (latest start-grants t)
+      says (Pair u v) w =
+          let is = grants-is (b .part Operators) (b .part Rides) start (h .pairs) u v (latest start-grants (Pair u v)) (latest-is start-grants (Pair u v)) in
+          λ j. record { stamp = is .1 j; gives = is .0 j }

@@ -1,73 +1,71 @@
 -- Demand 2: the board of a book, queried and peeled from all ones, gives the core of the pairs that it lists. Assumes nothing.
-use mathlib.Core.Path.{_≡_, sym, subst}
-use mathlib.Core.Bool.{Bool}
+use mathlib.Core.Path.{_≡_, sym, ap, _∙_, subst}
 use mathlib.Core.List.{List, [], _++_}
 use Prim.Native.Nat.{ℕ, _≤_, _<_}
 use lib.ListN.{length, getD}
 use Rattle.model.specs.declared.Head.{Head}
 use Rattle.model.specs.declared.Message.{Message}
 use Rattle.model.specs.Graph.{Graph, index-of}
-use Rattle.model.specs.Layout.{Board, mark-places, board-graph}
+use Rattle.model.specs.Layout.{Operators, Rides, Index, Parts, parts, Board, mark-places, board-graph}
+use Rattle.model.specs.Contents.{Contents}
 use Rattle.model.specs.Calls.{board-query, board-peel}
 use Rattle.model.specs.Demand.{IsCore, IsPeeledCore}
 use Rattle.model.proofs.Cover.{cover-laws}
 use Rattle.model.proofs.Level.{level-laws}
 use Rattle.model.proofs.Peel.{peel-laws}
 use Rattle.model.proofs.Query.{query-is-core}
+use Rattle.model.proofs.Contents.{extend, graph-extend, index-words}
 use Rattle.model.proofs.EndToEnd.{index-then-query, build-then-query, peel-none, peel-is-core}
-use Rattle.delivery.specs.Book.{book, latest, granted, stamped, filled, written}
+use Rattle.delivery.specs.Book.{book, latest, said, written}
 use Rattle.delivery.specs.Core.{CallsThenIndex, CallsThenQuery, CallsThenPeel, Demand2}
 use Rattle.delivery.proofs.Latest.{AllValid}
-use Rattle.delivery.proofs.Filled.{extend, graph-extend, index-filled}
 use Rattle.delivery.proofs.Run.{accepted-written}
 use Rattle.delivery.proofs.Build.{table}
 use Rattle.delivery.proofs.Demand.{board-is-book, valid-book}
 
 module _ (h : Head) (es : List Message) where
-  abbrev clear : ℕ → ℕ → Bool
-  clear u v = granted (latest es u v)
-
-  abbrev stamp : ℕ → ℕ → ℕ
-  stamp u v = stamped (latest es u v)
+  abbrev says : Contents
+  says t = said (latest es t)
 
   abbrev board : Board
   board = written h es
 
-  written-index : board .index ≡ index-of (board-graph board)
+  written-index : board .part Index ≡ index-of (board-graph board)
   unfolding written
-  written-index = index-filled h clear stamp
+  written-index = index-words h says (λ p. []) ∙ ap index-of (graph-extend h says (λ p. []))
 
   module _ (few : h .operators ≤ 200) (few′ : h .rides ≤ 60) (α β : ℕ) (a : 1 ≤ α) (c : 1 ≤ β) (marks : List ℕ) (long : mark-places h ≤ length marks) where
-    written-query : (more : List ℕ) → IsCore (board-graph board) α β (board-query (board .head) (board .index ++ more) α β marks)
-    unfolding written filled
+    written-query : (more : List ℕ) → IsCore (board-graph board) α β (board-query (board .head) (board .part Index ++ more) α β marks)
+    unfolding written
     written-query more =
         subst (λ (i : List ℕ). IsCore (board-graph board) α β (board-query (board .head) (i ++ more) α β marks)) (sym written-index)
         (index-then-query (board .head) (board-graph board .cleared) more α β marks few few′ a c long)
 
-    written-peel : AllValid h es → (more more′ : List ℕ) (allowed : ℕ) → ((x : ℕ) → x < mark-places h → getD marks x 0 ≡ 1) → IsPeeledCore (board-graph board) α β allowed (board-peel (board .head) (board .operators ++ more) (board .rides ++ more′) marks α β allowed)
-    unfolding written filled
+    written-peel : AllValid h es → (more more′ : List ℕ) (allowed : ℕ) → ((x : ℕ) → x < mark-places h → getD marks x 0 ≡ 1) → IsPeeledCore (board-graph board) α β allowed (board-peel (board .head) (board .part Operators ++ more) (board .part Rides ++ more′) marks α β allowed)
+    unfolding written
     written-peel valid more more′ allowed ones =
-        let lent : Board = extend board more more′ [] [] in
-        let none = peel-none lent marks α β (accepted-written h es few few′ valid more more′ [] [] .table) a c long ones in
-        subst (λ (g : Graph). IsPeeledCore g α β allowed (board-peel (board .head) (lent .operators) (lent .rides) marks α β allowed)) (graph-extend h clear stamp more more′ [] [])
-        (peel-is-core (board .head) (lent .operators) (lent .rides) marks α β allowed none ones)
+        let behind : Parts = parts more more′ [] [] in
+        let lent : Board = extend board behind in
+        let none = peel-none lent marks α β (accepted-written h es few few′ valid behind .table) a c long ones in
+        subst (λ (g : Graph). IsPeeledCore g α β allowed (board-peel (board .head) (lent .part Operators) (lent .part Rides) marks α β allowed)) (graph-extend h says behind)
+        (peel-is-core (board .head) (lent .part Operators) (lent .part Rides) marks α β allowed none ones)
 
 pub calls-then-index : CallsThenIndex
 calls-then-index b start calls e =
-    subst (λ (x : Board). x .index ≡ index-of (board-graph x)) (sym (board-is-book b start calls e))
-    (written-index (b .head) (book (b .head) (b .operators) (b .rides) start calls))
+    subst (λ (x : Board). x .part Index ≡ index-of (board-graph x)) (sym (board-is-book b start calls e))
+    (written-index (b .head) (book (b .head) (b .part Operators) (b .part Rides) start calls))
 
 pub calls-then-query : CallsThenQuery
 calls-then-query b start calls more α β marks e a c long =
     let t = table b start e in
-    subst (λ (x : Board). IsCore (board-graph x) α β (board-query (x .head) (x .index ++ more) α β marks)) (sym (board-is-book b start calls e))
-    (written-query (b .head) (book (b .head) (b .operators) (b .rides) start calls) (t .few-operators) (t .few-rides) α β a c marks long more)
+    subst (λ (x : Board). IsCore (board-graph x) α β (board-query (x .head) (x .part Index ++ more) α β marks)) (sym (board-is-book b start calls e))
+    (written-query (b .head) (book (b .head) (b .part Operators) (b .part Rides) start calls) (t .few-operators) (t .few-rides) α β a c marks long more)
 
 pub calls-then-peel : CallsThenPeel
 calls-then-peel b start calls more more′ α β allowed marks e a c long ones =
     let t = table b start e in
-    subst (λ (x : Board). IsPeeledCore (board-graph x) α β allowed (board-peel (x .head) (x .operators ++ more) (x .rides ++ more′) marks α β allowed)) (sym (board-is-book b start calls e))
-    (written-peel (b .head) (book (b .head) (b .operators) (b .rides) start calls) (t .few-operators) (t .few-rides) α β a c marks long (valid-book b start calls e) more more′ allowed ones)
+    subst (λ (x : Board). IsPeeledCore (board-graph x) α β allowed (board-peel (x .head) (x .part Operators ++ more) (x .part Rides ++ more′) marks α β allowed)) (sym (board-is-book b start calls e))
+    (written-peel (b .head) (book (b .head) (b .part Operators) (b .part Rides) start calls) (t .few-operators) (t .few-rides) α β a c marks long (valid-book b start calls e) more more′ allowed ones)
 
 pub demand-2 : Demand2
 demand-2 =

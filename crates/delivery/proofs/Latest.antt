@@ -1,21 +1,22 @@
--- The latest entry of a pair: that it is one, and that its stamp and kind depend on the set of entries alone. Assumes nothing.
--- A valid entry has the rank 2 × stamp + kind: the later of two has the larger one, and entries of one rank have one stamp and one kind.
+-- Which entry is the latest. Later is a strict order in which any two different entries compare, so that what the latest entry of a slot says
+-- depends on the set of entries alone. Assumes nothing.
 use mathlib.Core.Path.{_≡_, refl, sym, ap, _∙_, subst}
 use mathlib.Core.Logic.{inl, inr}
-use mathlib.Core.Bool.{Bool, _&&_, _||_}
+use mathlib.Core.Bool.{Bool, _&&_, _||_, not}
 use mathlib.Core.List.{List, [], _∷_, _++_, List·Memᴰ, List·Memᴰ·cases-cons, List·Memᴰ·not-nil, List·Memᴰ·append-cases, List·Memᴰ·eq-of-singleton, Memᴰ·append-left, Memᴰ·append-right}
 use mathlib.Core.Option.{Option, none, some}
-use Prim.Native.Nat.{ℕ, _+_, _*_, _≤_, _<_}
+use Prim.Native.Nat.{ℕ, _<_}
 use native.Mathlib.Omega.{arith}
-use native.Mathlib.Decide.{decLt, decLe, ℕ-discrete}
+use native.Mathlib.Decide.{decLt}
 use lib.Dec.{T, ltb, eqb, ltb→lt, lt→ltb, eqb→eq, eqb-refl, T-not, not-T}
-use borrow.Author.Tests.{eq-eqb, ne-eqb}
 use Rattle.model.specs.declared.Head.{Head}
 use Rattle.model.specs.declared.Message.{Message}
-use Rattle.model.specs.Refusal.{refused-7, refused-8, refused-9, later, last-kind}
-use Rattle.model.proofs.Count.{by-test, test-true, test-false, and-left, and-right, and-both, or-left, or-right, or-cases}
+use Rattle.model.specs.Contents.{Slot, same-slot, Entry, later, slot, entry, unheard}
+use Rattle.model.specs.Refusal.{refused-7, refused-8, refused-9}
+use Rattle.model.proofs.Count.{by-test, test-true, test-false, test-ext, and-left, and-right, and-both, or-left, or-right, or-cases}
 use Rattle.model.proofs.Refusal.{Valid, valid-kind, valid-pair, valid-stamp, tests-valid}
-use Rattle.delivery.specs.Book.{valid, later-one, latest, granted, stamped}
+use Rattle.model.proofs.Contents.{slot-refl, slot-equal}
+use Rattle.delivery.specs.Book.{valid, later-one, latest, said}
 use Rattle.delivery.specs.Demand.{Latest, LatestLaws}
 
 -- ---- valid messages
@@ -40,255 +41,221 @@ module _ (h : Head) (m : Message) where
 
 -- ---- later
 
-eq-test : (a b : ℕ) → a ≡ b → T (eqb a b)
-eq-test a b e = subst (λ (x : ℕ). T (eqb a x)) e (eqb-refl a)
+abbrev pub Later : Entry → Entry → Type 0
+Later e f = T (later e f)
 
-later-cases {ℓ} : {C : Type ℓ} (k s k′ s′ : ℕ) → T (later k s k′ s′) → (s′ < s → C) → (s ≡ s′ → k ≡ 2 → k′ ≡ 1 → C) → C
-later-cases k s k′ s′ t f g =
-    or-cases (ltb s′ s) (eqb s s′ && (eqb k 2 && eqb k′ 1)) t
-    (λ l. f (ltb→lt s′ s l))
-    (λ e. let r = and-right (eqb s s′) (eqb k 2 && eqb k′ 1) e in g (eqb→eq s s′ (and-left (eqb s s′) (eqb k 2 && eqb k′ 1) e)) (eqb→eq k 2 (and-left (eqb k 2) (eqb k′ 1) r)) (eqb→eq k′ 1 (and-right (eqb k 2) (eqb k′ 1) r)))
+module _ (e f : Entry) where
+  -- at equal stamps: e takes away, and f gives
+  abbrev tie : Bool
+  tie = eqb (e .stamp) (f .stamp) && (not (e .gives) && f .gives)
 
-later-stamp : (k s k′ s′ : ℕ) → s′ < s → T (later k s k′ s′)
-later-stamp k s k′ s′ h = or-left (ltb s′ s) (eqb s s′ && (eqb k 2 && eqb k′ 1)) (lt→ltb s′ s h)
+  later-cases {ℓ} : {C : Type ℓ} → Later e f → (f .stamp < e .stamp → C) → (e .stamp ≡ f .stamp → (T (e .gives) → ⊥) → T (f .gives) → C) → C
+  later-cases t c d =
+      or-cases (ltb (f .stamp) (e .stamp)) tie t
+      (λ l. c (ltb→lt (f .stamp) (e .stamp) l))
+      (λ k. let r = and-right (eqb (e .stamp) (f .stamp)) (not (e .gives) && f .gives) k in
+      d (eqb→eq (e .stamp) (f .stamp) (and-left (eqb (e .stamp) (f .stamp)) (not (e .gives) && f .gives) k)) (T-not (e .gives) (and-left (not (e .gives)) (f .gives) r)) (and-right (not (e .gives)) (f .gives) r))
 
-later-kind : (k s k′ s′ : ℕ) → s ≡ s′ → k ≡ 2 → k′ ≡ 1 → T (later k s k′ s′)
-later-kind k s k′ s′ e d d′ =
-    or-right (ltb s′ s) (eqb s s′ && (eqb k 2 && eqb k′ 1)) (and-both (eqb s s′) (eqb k 2 && eqb k′ 1) (eq-test s s′ e) (and-both (eqb k 2) (eqb k′ 1) (eq-test k 2 d) (eq-test k′ 1 d′)))
+  pub later-stamp : f .stamp < e .stamp → Later e f
+  later-stamp l = or-left (ltb (f .stamp) (e .stamp)) tie (lt→ltb (f .stamp) (e .stamp) l)
 
--- one message is later than another
-abbrev Later : Message → Message → Type 0
-Later e f = T (later (e .kind) (e .stamp) (f .kind) (f .stamp))
+  later-tie : e .stamp ≡ f .stamp → (T (e .gives) → ⊥) → T (f .gives) → Later e f
+  later-tie q n g =
+      or-right (ltb (f .stamp) (e .stamp)) tie (and-both (eqb (e .stamp) (f .stamp)) (not (e .gives) && f .gives) (subst (λ (x : ℕ). T (eqb (e .stamp) x)) q (eqb-refl (e .stamp))) (and-both (not (e .gives)) (f .gives) (not-T (e .gives) n) g))
 
-later-irrefl : (e : Message) → Later e e → ⊥
-later-irrefl e t = later-cases (e .kind) (e .stamp) (e .kind) (e .stamp) t (λ h. let z : ⊥ = omega arith in z) (λ p q r. let z : ⊥ = omega arith in z)
+later-irrefl : (e : Entry) → Later e e → ⊥
+later-irrefl e t = later-cases e e t (λ h. let z : ⊥ = omega arith in z) (λ q n g. n g)
 
-later-trans : (e f d : Message) → Later e f → Later f d → Later e d
+later-trans : (e f d : Entry) → Later e f → Later f d → Later e d
 later-trans e f d t s =
-    later-cases (e .kind) (e .stamp) (f .kind) (f .stamp) t
-    (λ h. later-cases (f .kind) (f .stamp) (d .kind) (d .stamp) s (λ l. later-stamp (e .kind) (e .stamp) (d .kind) (d .stamp) (omega arith)) (λ p q r. later-stamp (e .kind) (e .stamp) (d .kind) (d .stamp) (omega arith)))
-    (λ p q r. later-cases (f .kind) (f .stamp) (d .kind) (d .stamp) s (λ l. later-stamp (e .kind) (e .stamp) (d .kind) (d .stamp) (omega arith)) (λ p′ q′ r′. absurd (let z : ⊥ = omega arith in z)))
+    later-cases e f t
+    (λ h. later-cases f d s (λ l. later-stamp e d (omega arith)) (λ q n g. later-stamp e d (omega arith)))
+    (λ q n g. later-cases f d s (λ l. later-stamp e d (omega arith)) (λ q′ n′ g′. absurd (n′ g)))
+
+-- of two different entries one is later
+later-total : (e f : Entry) → (Later e f → ⊥) → (Later f e → ⊥) → e ≡ f
+later-total e f n n′ =
+    let stamp : e .stamp ≡ f .stamp = elim (decLt (f .stamp) (e .stamp)) [ yes l ↦ absurd (n (later-stamp e f l)) | no l ↦ elim (decLt (e .stamp) (f .stamp)) [ yes k ↦ absurd (n′ (later-stamp f e k)) | no k ↦ omega arith ] ] in
+    let gives : e .gives ≡ f .gives = test-ext (e .gives) (f .gives) (λ t. by-test (f .gives) (λ s. s) (λ s. absurd (n′ (later-tie f e (sym stamp) s t)))) (λ t. by-test (e .gives) (λ s. s) (λ s. absurd (n (later-tie e f stamp s t)))) in
+    λ j. record { stamp = stamp j; gives = gives j }
+
+-- e is not later than f
+abbrev pub AtMost : Entry → Entry → Type 0
+AtMost e f = Later e f → ⊥
+
+at-most-trans : (e f d : Entry) → AtMost e f → AtMost f d → AtMost e d
+at-most-trans e f d n m t =
+    by-test (later d f)
+    (λ s. n (later-trans e d f t s))
+    (λ s. n (subst (Later e) (later-total d f s m) t))
+
+later-at-most : (e f : Entry) → Later e f → AtMost f e
+later-at-most e f t s = later-irrefl e (later-trans e f e t s)
 
 -- ---- the latest entry is one that no entry is later than
 
--- what o says of the pair's entries: none, or that it is the latest
-abbrev pub Is : List Message → ℕ → ℕ → Option Message → Type 0
-Is es u v none = (e : Message) → List·Memᴰ e es → e .operator ≡ u → e .ride ≡ v → ⊥
-Is es u v (some e) = Latest es u v e
+-- what o says of a slot's entries: none, or that it is the latest
+abbrev pub Is : List Message → Slot → Option Message → Type 0
+Is es t none = (e : Message) → List·Memᴰ e es → slot e ≡ t → ⊥
+Is es t (some e) = Latest es t e
 
 -- of two entries the later one is kept
 module _ (e d : Message) where
-  later-one-yes : Later e d → later-one e (some d) ≡ some e
-  later-one-yes t = rw (test-true (later (e .kind) (e .stamp) (d .kind) (d .stamp)) t, later-one)
+  later-one-yes : Later (entry e) (entry d) → later-one e (some d) ≡ some e
+  later-one-yes t = rw (test-true (later (entry e) (entry d)) t, later-one)
 
-  later-one-no : (Later e d → ⊥) → later-one e (some d) ≡ some d
-  later-one-no n = rw (test-false (later (e .kind) (e .stamp) (d .kind) (d .stamp)) n, later-one)
+  later-one-no : AtMost (entry e) (entry d) → later-one e (some d) ≡ some d
+  later-one-no n = rw (test-false (later (entry e) (entry d)) n, later-one)
 
-module _ (e : Message) (es : List Message) (u v : ℕ) where
-  -- e is an entry for the pair
-  abbrev about : Bool
-  about = eqb (e .operator) u && eqb (e .ride) v
-
-  latest-about : T about → latest (e ∷ es) u v ≡ later-one e (latest es u v)
+module _ (e : Message) (es : List Message) (t : Slot) where
+  latest-about : slot e ≡ t → latest (e ∷ es) t ≡ later-one e (latest es t)
   unfolding latest
-  latest-about t = rw (test-true about t, latest)
+  latest-about q = rw (test-true (same-slot (slot e) t) (subst (λ (x : Slot). T (same-slot (slot e) x)) q (slot-refl (slot e))), latest)
 
-  latest-other : (T about → ⊥) → latest (e ∷ es) u v ≡ latest es u v
+  latest-other : (slot e ≡ t → ⊥) → latest (e ∷ es) t ≡ latest es t
   unfolding latest
-  latest-other n = rw (test-false about n, latest)
+  latest-other n = rw (test-false (same-slot (slot e) t) (λ s. n (slot-equal (slot e) t s)), latest)
 
-  later-one-is : (o : Option Message) → T about → Is es u v o → Is (e ∷ es) u v (later-one e o)
-  later-one-is none t is =
+  later-one-is : (o : Option Message) → slot e ≡ t → Is es t o → Is (e ∷ es) t (later-one e o)
+  later-one-is none q is =
       record {
-        entry = List·Memᴰ.List·Memᴰ·head refl;
-        operator = eqb→eq (e .operator) u (and-left (eqb (e .operator) u) (eqb (e .ride) v) t);
-        ride = eqb→eq (e .ride) v (and-right (eqb (e .operator) u) (eqb (e .ride) v) t);
-        last = λ f m a b l. elim (List·Memᴰ·cases-cons m) [ inl q ↦ later-irrefl e (subst (λ (x : Message). Later x e) q l) | inr k ↦ is f k a b ];
+        member = List·Memᴰ.List·Memᴰ·head refl;
+        about = q;
+        last = λ f m a l. elim (List·Memᴰ·cases-cons m) [ inl p ↦ later-irrefl (entry e) (subst (λ (x : Message). Later (entry x) (entry e)) p l) | inr k ↦ is f k a ];
       }
-  later-one-is (some d) t is =
-      by-test (later (e .kind) (e .stamp) (d .kind) (d .stamp))
-      (λ l. subst (Is (e ∷ es) u v) (sym (later-one-yes e d l))
+  later-one-is (some d) q is =
+      by-test (later (entry e) (entry d))
+      (λ l. subst (Is (e ∷ es) t) (sym (later-one-yes e d l))
       (record {
-        entry = List·Memᴰ.List·Memᴰ·head refl;
-        operator = eqb→eq (e .operator) u (and-left (eqb (e .operator) u) (eqb (e .ride) v) t);
-        ride = eqb→eq (e .ride) v (and-right (eqb (e .operator) u) (eqb (e .ride) v) t);
-        last = λ f m a b k. elim (List·Memᴰ·cases-cons m) [ inl q ↦ later-irrefl e (subst (λ (x : Message). Later x e) q k) | inr i ↦ is .last f i a b (later-trans f e d k l) ];
+        member = List·Memᴰ.List·Memᴰ·head refl;
+        about = q;
+        last = λ f m a k. elim (List·Memᴰ·cases-cons m) [ inl p ↦ later-irrefl (entry e) (subst (λ (x : Message). Later (entry x) (entry e)) p k) | inr i ↦ is .last f i a (later-trans (entry f) (entry e) (entry d) k l) ];
       }))
-      (λ n. subst (Is (e ∷ es) u v) (sym (later-one-no e d n))
+      (λ n. subst (Is (e ∷ es) t) (sym (later-one-no e d n))
       (record {
-        entry = List·Memᴰ.List·Memᴰ·tail (is .entry);
-        operator = is .operator;
-        ride = is .ride;
-        last = λ f m a b k. elim (List·Memᴰ·cases-cons m) [ inl q ↦ n (subst (λ (x : Message). Later x d) q k) | inr i ↦ is .last f i a b k ];
+        member = List·Memᴰ.List·Memᴰ·tail (is .member);
+        about = is .about;
+        last = λ f m a k. elim (List·Memᴰ·cases-cons m) [ inl p ↦ n (subst (λ (x : Message). Later (entry x) (entry d)) p k) | inr i ↦ is .last f i a k ];
       }))
 
-  other-is : (o : Option Message) → (T about → ⊥) → Is es u v o → Is (e ∷ es) u v o
-  other-is none n is = λ f m a b.
-      elim (List·Memᴰ·cases-cons m) [
-        | inl q ↦ n (and-both (eqb (e .operator) u) (eqb (e .ride) v) (eq-test (e .operator) u (sym (ap (λ (x : Message). x .operator) q) ∙ a)) (eq-test (e .ride) v (sym (ap (λ (x : Message). x .ride) q) ∙ b)))
-        | inr k ↦ is f k a b
-      ]
+  other-is : (o : Option Message) → (slot e ≡ t → ⊥) → Is es t o → Is (e ∷ es) t o
+  other-is none n is = λ f m a. elim (List·Memᴰ·cases-cons m) [ inl p ↦ n (sym (ap slot p) ∙ a) | inr k ↦ is f k a ]
   other-is (some d) n is =
       record {
-        entry = List·Memᴰ.List·Memᴰ·tail (is .entry);
-        operator = is .operator;
-        ride = is .ride;
-        last = λ f m a b k.
-            elim (List·Memᴰ·cases-cons m) [
-              | inl q ↦ n (and-both (eqb (e .operator) u) (eqb (e .ride) v) (eq-test (e .operator) u (sym (ap (λ (x : Message). x .operator) q) ∙ a)) (eq-test (e .ride) v (sym (ap (λ (x : Message). x .ride) q) ∙ b)))
-              | inr i ↦ is .last f i a b k
-            ];
+        member = List·Memᴰ.List·Memᴰ·tail (is .member);
+        about = is .about;
+        last = λ f m a k. elim (List·Memᴰ·cases-cons m) [ inl p ↦ n (sym (ap slot p) ∙ a) | inr i ↦ is .last f i a k ];
       }
 
-pub latest-is : (es : List Message) (u v : ℕ) → Is es u v (latest es u v)
+pub latest-is : (es : List Message) (t : Slot) → Is es t (latest es t)
 unfolding latest
-latest-is [] u v = λ e m a b. List·Memᴰ·not-nil m
-latest-is (e ∷ es) u v =
-    by-test (about e es u v)
-    (λ t. subst (Is (e ∷ es) u v) (sym (latest-about e es u v t)) (later-one-is e es u v (latest es u v) t (latest-is es u v)))
-    (λ n. subst (Is (e ∷ es) u v) (sym (latest-other e es u v n)) (other-is e es u v (latest es u v) n (latest-is es u v)))
+latest-is [] t = λ e m a. List·Memᴰ·not-nil m
+latest-is (e ∷ es) t =
+    by-test (same-slot (slot e) t)
+    (λ s. let q = slot-equal (slot e) t s in subst (Is (e ∷ es) t) (sym (latest-about e es t q)) (later-one-is e es t (latest es t) q (latest-is es t)))
+    (λ s. let n : slot e ≡ t → ⊥ = λ q. s (subst (λ (x : Slot). T (same-slot (slot e) x)) q (slot-refl (slot e))) in subst (Is (e ∷ es) t) (sym (latest-other e es t n)) (other-is e es t (latest es t) n (latest-is es t)))
 
--- ---- the latest depends on the set of entries alone
+-- ---- what the latest says depends on the set of entries alone
 
-abbrev pub rank : Message → ℕ
-rank e = 2 * e .stamp + e .kind
+-- each entry of es for the slot has one in fs that it is not later than
+abbrev pub Covered : List Message → List Message → Slot → Type 0
+Covered es fs t = (e : Message) → List·Memᴰ e es → slot e ≡ t → (f : Message) × List·Memᴰ f fs × (slot f ≡ t) × AtMost (entry e) (entry f)
+
+module _ (es fs : List Message) (t : Slot) (there : Covered es fs t) (back : Covered fs es t) where
+  same-is : (o o′ : Option Message) → Is es t o → Is fs t o′ → said o ≡ said o′
+  same-is none none i j = refl
+  same-is none (some f) i j = let w = back f (j .member) (j .about) in absurd (i (w .0) (w .1) (w .2))
+  same-is (some e) none i j = let w = there e (i .member) (i .about) in absurd (j (w .0) (w .1) (w .2))
+  same-is (some e) (some f) i j =
+      let w = there e (i .member) (i .about) in
+      let w′ = back f (j .member) (j .about) in
+      later-total (entry e) (entry f)
+      (at-most-trans (entry e) (entry (w .0)) (entry f) (w .3) (j .last (w .0) (w .1) (w .2)))
+      (at-most-trans (entry f) (entry (w′ .0)) (entry e) (w′ .3) (i .last (w′ .0) (w′ .1) (w′ .2)))
+
+  pub latest-same : said (latest es t) ≡ said (latest fs t)
+  latest-same = same-is (latest es t) (latest fs t) (latest-is es t) (latest-is fs t)
+
+-- each entry of es for the slot is one of fs
+pub covered-members : (es fs : List Message) (t : Slot) → ((e : Message) → List·Memᴰ e es → slot e ≡ t → List·Memᴰ e fs) → Covered es fs t
+covered-members es fs t f e i a = (e, f e i a, a, later-irrefl (entry e))
+
+-- ---- the laws of the book's latest entry
 
 -- all entries are valid
 abbrev pub AllValid : Head → List Message → Type 0
 AllValid h es = (e : Message) → List·Memᴰ e es → Valid h e
 
-module _ (h : Head) (e f : Message) (e-valid : Valid h e) (f-valid : Valid h f) where
-  pub later-rank : Later e f → rank f < rank e
-  later-rank t = later-cases (e .kind) (e .stamp) (f .kind) (f .stamp) t (λ l. omega (arith, e-valid .kind-low, f-valid .kind-high)) (λ p q r. omega arith)
-
-  pub rank-later : rank f < rank e → Later e f
-  rank-later l =
-      elim (decLt (f .stamp) (e .stamp)) [
-        | yes s ↦ later-stamp (e .kind) (e .stamp) (f .kind) (f .stamp) s
-        | no s ↦
-            (let q : e .stamp ≡ f .stamp = omega (arith, e-valid .kind-high, f-valid .kind-low) in
-            later-kind (e .kind) (e .stamp) (f .kind) (f .stamp) q (omega (arith, e-valid .kind-high, f-valid .kind-low)) (omega (arith, e-valid .kind-high, f-valid .kind-low)))
-      ]
-
-  -- entries of one rank have one kind and one stamp
-  same-rank : rank e ≡ rank f → (e .kind ≡ f .kind) × (e .stamp ≡ f .stamp)
-  same-rank q = omega (arith, e-valid .kind-low, e-valid .kind-high, f-valid .kind-low, f-valid .kind-high)
-
--- each entry of es for the pair has one in fs that it is not later than
-abbrev pub Covered : List Message → List Message → ℕ → ℕ → Type 0
-Covered es fs u v = (e : Message) → List·Memᴰ e es → e .operator ≡ u → e .ride ≡ v → (f : Message) × List·Memᴰ f fs × (f .operator ≡ u) × (f .ride ≡ v) × (rank e ≤ rank f)
-
--- what two latest entries have in common: both give the pair the same stamp, and list it or not
-abbrev pub Same : Option Message → Option Message → Type 0
-Same o o′ = (granted o ≡ granted o′) × (stamped o ≡ stamped o′)
-
-module _ (h : Head) (es : List Message) (u v : ℕ) (es-valid : AllValid h es) where
-  -- no entry has a larger rank than the latest
-  latest-rank : (e : Message) → Latest es u v e → (f : Message) → List·Memᴰ f es → f .operator ≡ u → f .ride ≡ v → rank f ≤ rank e
-  latest-rank e l f m a b =
-      elim (decLe (rank f) (rank e)) [
-        | yes k ↦ k
-        | no k ↦ absurd (l .last f m a b (rank-later h f e (es-valid f m) (es-valid e (l .entry)) (omega arith)))
-      ]
-
-module _ (h : Head) (es fs : List Message) (u v : ℕ) (es-valid : AllValid h es) (fs-valid : AllValid h fs) (there : Covered es fs u v) (back : Covered fs es u v) where
-  same-is : (o o′ : Option Message) → Is es u v o → Is fs u v o′ → Same o o′
-  same-is none none i j = (refl, refl)
-  same-is none (some f) i j = let w = back f (j .entry) (j .operator) (j .ride) in absurd (i (w .0) (w .1) (w .2) (w .3))
-  same-is (some e) none i j = let w = there e (i .entry) (i .operator) (i .ride) in absurd (j (w .0) (w .1) (w .2) (w .3))
-  same-is (some e) (some f) i j =
-      let w = there e (i .entry) (i .operator) (i .ride) in
-      let w′ = back f (j .entry) (j .operator) (j .ride) in
-      let q : rank e ≡ rank f = omega (arith, w .4, w′ .4, latest-rank h fs u v fs-valid f j (w .0) (w .1) (w .2) (w .3), latest-rank h es u v es-valid e i (w′ .0) (w′ .1) (w′ .2) (w′ .3)) in
-      let k = same-rank h e f (es-valid e (i .entry)) (fs-valid f (j .entry)) q in
-      let kind = k .0 in
-      let stamp = k .1 in
-      let operator = i .operator ∙ sym (j .operator) in
-      let ride = i .ride ∙ sym (j .ride) in
-      let same : e ≡ f = λ t. record { kind = kind t; operator = operator t; ride = ride t; stamp = stamp t } in
-      (ap (λ (x : Message). granted (some x)) same, ap (λ (x : Message). stamped (some x)) same)
-
-  pub latest-same : Same (latest es u v) (latest fs u v)
-  latest-same = same-is (latest es u v) (latest fs u v) (latest-is es u v) (latest-is fs u v)
-
--- ---- the laws of the book's latest entry
+-- a valid message's entry says its kind
+entry-kind : (h : Head) (e f : Message) → Valid h e → Valid h f → entry e ≡ entry f → e .kind ≡ f .kind
+entry-kind h e f v w q =
+    let gives : eqb (e .kind) 1 ≡ eqb (f .kind) 1 = ap (λ (x : Entry). x .gives) q in
+    by-test (eqb (e .kind) 1)
+    (λ t. eqb→eq (e .kind) 1 t ∙ sym (eqb→eq (f .kind) 1 (subst T gives t)))
+    (λ n. let two : (d : Message) → Valid h d → (T (eqb (d .kind) 1) → ⊥) → d .kind ≡ 2 = λ d r k. elim (decLt (d .kind) 2) [ yes l ↦ absurd (k (subst (λ (x : ℕ). T (eqb x 1)) (let z : 1 ≡ d .kind = omega (arith, r .kind-low) in z) tt)) | no l ↦ omega (arith, r .kind-high) ] in
+    two e v n ∙ sym (two f w (λ t. n (subst T (sym gives) t))))
 
 pub latest-laws : LatestLaws
 latest-laws =
     record {
-      found = λ es u v e q. subst (Is es u v) q (latest-is es u v);
-      missing = λ es u v q. subst (Is es u v) q (latest-is es u v);
-      only = λ h es u v e f valid i j.
-          let a : AllValid h es = λ m k. valid-test h m (valid m k) in
-          same-rank h e f (a e (i .entry)) (a f (j .entry)) (omega (arith, latest-rank h es u v a e i f (j .entry) (j .operator) (j .ride), latest-rank h es u v a f j e (i .entry) (i .operator) (i .ride)));
+      found = λ es t e q. subst (Is es t) q (latest-is es t);
+      missing = λ es t q. subst (Is es t) q (latest-is es t);
+      only = λ h es t e f valid i j.
+          let q = later-total (entry e) (entry f) (j .last e (i .member) (i .about)) (i .last f (j .member) (j .about)) in
+          (entry-kind h e f (valid-test h e (valid e (i .member))) (valid-test h f (valid f (j .member))) q, ap (λ (x : Entry). x .stamp) q);
     }
 
 -- ---- one entry more
 
-last-kind-kind : (k : ℕ) → 1 ≤ k → k ≤ 2 → last-kind (eqb k 1) ≡ k
-last-kind-kind k l u =
-    elim (ℕ-discrete k 1) [
-      | yes e ↦ ap last-kind (eq-eqb k 1 e) ∙ sym e
-      | no n ↦ ap last-kind (ne-eqb k 1 n) ∙ (let e : 2 ≡ k = omega arith in e)
-    ]
-
 pub valid-append : (h : Head) (es fs : List Message) → AllValid h es → AllValid h fs → AllValid h (es ++ fs)
 valid-append h es fs a b e m = elim (List·Memᴰ·append-cases es m) [ inl i ↦ a e i | inr j ↦ b e j ]
 
-valid-single : (h : Head) (m : Message) → Valid h m → AllValid h (m ∷ [])
-valid-single h m v e i = subst (Valid h) (sym (List·Memᴰ·eq-of-singleton i)) v
+-- a valid message is later than nothing
+pub later-unheard : (h : Head) (m : Message) → Valid h m → Later (entry m) unheard
+later-unheard h m v = later-stamp (entry m) unheard (v .stamp)
 
-module _ (h : Head) (m : Message) (m-valid : Valid h m) where
-  -- m is later than what a board with this latest entry says of its pair
-  abbrev pub newer : Option Message → Bool
-  newer o = later (m .kind) (m .stamp) (last-kind (granted o)) (stamped o)
+module _ (h : Head) (m : Message) (m-valid : Valid h m) (es : List Message) where
+  abbrev more : List Message
+  more = es ++ (m ∷ [])
 
-  newer-later : (e : Message) → Valid h e → newer (some e) ≡ later (m .kind) (m .stamp) (e .kind) (e .stamp)
-  newer-later e v = ap (λ (k : ℕ). later (m .kind) (m .stamp) k (e .stamp)) (last-kind-kind (e .kind) (v .kind-low) (v .kind-high))
+  abbrev here : Slot
+  here = slot m
 
-  latest-single : latest (m ∷ []) (m .operator) (m .ride) ≡ some m
-  unfolding latest
-  latest-single = latest-about m [] (m .operator) (m .ride) (and-both (eqb (m .operator) (m .operator)) (eqb (m .ride) (m .ride)) (eqb-refl (m .operator)) (eqb-refl (m .ride)))
+  -- m is later than what the book says of its slot
+  abbrev pub newer : Bool
+  newer = later (entry m) (said (latest es here))
 
-  module _ (es : List Message) (es-valid : AllValid h es) where
-    abbrev more : List Message
-    more = es ++ (m ∷ [])
+  single-is : Is (m ∷ []) here (some m)
+  single-is = later-one-is m [] here none refl (λ e i a. List·Memᴰ·not-nil i)
 
-    pub more-valid : AllValid h more
-    more-valid = valid-append h es (m ∷ []) es-valid (valid-single h m m-valid)
+  -- where m is newer, it is the latest; where not, or for another slot, the book says what it said before
+  outranked : (o : Option Message) → Is es here o → Later (entry m) (said o) → (e : Message) → List·Memᴰ e es → slot e ≡ here → AtMost (entry e) (entry m)
+  outranked none is t e i a = absurd (is e i a)
+  outranked (some d) is t e i a = at-most-trans (entry e) (entry d) (entry m) (is .last e i a) (later-at-most (entry m) (entry d) t)
 
-    stays : (u v : ℕ) → Covered es more u v
-    stays u v e i a b = (e, Memᴰ·append-left (m ∷ []) i, a, b, omega arith)
+  outranks : (o : Option Message) → Is es here o → AtMost (entry m) (said o) → (f : Message) × List·Memᴰ f es × (slot f ≡ here) × AtMost (entry m) (entry f)
+  outranks none is n = absurd (n (later-unheard h m m-valid))
+  outranks (some d) is n = (d, is .member, is .about, n)
 
-    -- where m is newer, it is the latest; where not, or for another pair, the latest is as before
-    outranks : (o : Option Message) → Is es (m .operator) (m .ride) o → T (newer o) → (e : Message) → List·Memᴰ e es → e .operator ≡ m .operator → e .ride ≡ m .ride → rank e ≤ rank m
-    outranks none is t e i a b = absurd (is e i a b)
-    outranks (some d) is t e i a b =
-        let v = es-valid d (is .entry) in
-        omega (arith, latest-rank h es (m .operator) (m .ride) es-valid d is e i a b, later-rank h m d m-valid v (subst T (newer-later d v) t))
+  stays : (t : Slot) → Covered es more t
+  stays t = covered-members es more t (λ e i a. Memᴰ·append-left (m ∷ []) i)
 
-    outranked : (o : Option Message) → Is es (m .operator) (m .ride) o → (T (newer o) → ⊥) → (f : Message) × List·Memᴰ f es × (f .operator ≡ m .operator) × (f .ride ≡ m .ride) × (rank m ≤ rank f)
-    outranked none is n = absurd (n (later-stamp (m .kind) (m .stamp) 2 0 (m-valid .stamp)))
-    outranked (some d) is n =
-        let v = es-valid d (is .entry) in
-        (d, is .entry, is .operator, is .ride, elim (decLe (rank m) (rank d)) [ yes l ↦ l | no l ↦ absurd (n (subst T (sym (newer-later d v)) (rank-later h m d m-valid v (omega arith)))) ])
+  pub entry-newer : T newer → said (latest more here) ≡ entry m
+  entry-newer t =
+      same-is more (m ∷ []) here
+      (λ e i a. (m, List·Memᴰ.List·Memᴰ·head refl, refl, elim (List·Memᴰ·append-cases es i) [ inl j ↦ outranked (latest es here) (latest-is es here) t e j a | inr j ↦ subst (λ (x : Message). AtMost (entry x) (entry m)) (sym (List·Memᴰ·eq-of-singleton j)) (later-irrefl (entry m)) ]))
+      (covered-members (m ∷ []) more here (λ e i a. Memᴰ·append-right es i))
+      (latest more here) (some m) (latest-is more here) single-is
 
-    pub entry-newer : T (newer (latest es (m .operator) (m .ride))) → Same (latest more (m .operator) (m .ride)) (some m)
-    entry-newer t =
-        subst (Same (latest more (m .operator) (m .ride))) latest-single
-        (latest-same h more (m ∷ []) (m .operator) (m .ride) more-valid (valid-single h m m-valid)
-        (λ e i a b. (m, List·Memᴰ.List·Memᴰ·head refl, refl, refl, elim (List·Memᴰ·append-cases es i) [ inl j ↦ outranks (latest es (m .operator) (m .ride)) (latest-is es (m .operator) (m .ride)) t e j a b | inr j ↦ subst (λ (x : Message). rank e ≤ rank x) (List·Memᴰ·eq-of-singleton j) (let z : rank e ≤ rank e = omega arith in z) ]))
-        (λ e i a b. (e, Memᴰ·append-right es i, a, b, omega arith)))
+  pub entry-older : (T newer → ⊥) → said (latest more here) ≡ said (latest es here)
+  entry-older n =
+      let w = outranks (latest es here) (latest-is es here) n in
+      latest-same more es here
+      (λ e i a. elim (List·Memᴰ·append-cases es i) [ inl j ↦ (e, j, a, later-irrefl (entry e)) | inr j ↦ (w .0, w .1, w .2, subst (λ (x : Message). AtMost (entry x) (entry (w .0))) (sym (List·Memᴰ·eq-of-singleton j)) (w .3)) ])
+      (stays here)
 
-    pub entry-older : (T (newer (latest es (m .operator) (m .ride))) → ⊥) → Same (latest more (m .operator) (m .ride)) (latest es (m .operator) (m .ride))
-    entry-older n =
-        let w = outranked (latest es (m .operator) (m .ride)) (latest-is es (m .operator) (m .ride)) n in
-        latest-same h more es (m .operator) (m .ride) more-valid es-valid
-        (λ e i a b. elim (List·Memᴰ·append-cases es i) [ inl j ↦ (e, j, a, b, omega arith) | inr j ↦ (w .0, w .1, w .2, w .3, subst (λ (x : Message). rank x ≤ rank (w .0)) (sym (List·Memᴰ·eq-of-singleton j)) (w .4)) ])
-        (stays (m .operator) (m .ride))
-
-    pub entry-other : (u v : ℕ) → (u ≡ m .operator → v ≡ m .ride → ⊥) → Same (latest more u v) (latest es u v)
-    entry-other u v n =
-        latest-same h more es u v more-valid es-valid
-        (λ e i a b. elim (List·Memᴰ·append-cases es i) [ inl j ↦ (e, j, a, b, omega arith) | inr j ↦ (let q = List·Memᴰ·eq-of-singleton j in absurd (n (sym a ∙ ap (λ (x : Message). x .operator) q) (sym b ∙ ap (λ (x : Message). x .ride) q))) ])
-        (stays u v)
+  pub entry-other : (t : Slot) → (t ≡ here → ⊥) → said (latest more t) ≡ said (latest es t)
+  entry-other t n =
+      latest-same more es t
+      (covered-members more es t (λ e i a. elim (List·Memᴰ·append-cases es i) [ inl j ↦ j | inr j ↦ absurd (n (sym a ∙ ap slot (List·Memᴰ·eq-of-singleton j))) ]))
+      (stays t)

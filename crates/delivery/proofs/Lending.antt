@@ -1,6 +1,5 @@
 -- Lending: a part that is long enough is whole, its length follows from that of the board's part, and what was not lent stays. Assumes nothing.
 use mathlib.Core.Path.{_≡_, refl, sym, ap, ap₂, _∙_}
-use mathlib.Core.Bool.{_||_}
 use mathlib.Core.List.{List, [], _++_, append-nil, append-assoc}
 use Prim.Native.Nat.{ℕ, _≤_}
 use native.Mathlib.Omega.{arith}
@@ -9,23 +8,23 @@ use lib.Dec.{ltb}
 use lib.ListN.{length, take, drop, length-append, length-take, take-append-drop}
 use lib.Seq.{take-all, take-length, take-at, take-append-seam, length-take-le}
 use Rattle.model.specs.declared.Head.{Head}
-use Rattle.model.specs.Layout.{Board, pair-places, index-places}
+use Rattle.model.specs.Layout.{Part, Parts, Board, places, all-parts, some-part}
 use Rattle.model.specs.Refusal.{board-short}
-use Rattle.delivery.specs.Calls.{Lent, cut, whole, lent, Lending, lend, back, take-back}
+use Rattle.model.proofs.Contents.{extend}
+use Rattle.delivery.specs.Calls.{Lent, cut, whole, got, Lending, lend, back, take-back}
 use Rattle.delivery.specs.Book.{lent-length, parts-short}
-use Rattle.delivery.proofs.Filled.{extend}
 
-pub length-lent : (l : Lent) (part : List ℕ) → length (lent l part) ≡ lent-length (length part) l
-length-lent (cut n) part = length-take n part
-length-lent (whole more) part = length-append part more
+pub length-got : (l : Lent) (part : List ℕ) → length (got l part) ≡ lent-length (length part) l
+length-got (cut n) part = length-take n part
+length-got (whole more) part = length-append part more
 
 -- a part that is long enough is lent whole, with some words behind it
-pub lent-whole : (l : Lent) (part : List ℕ) → length part ≤ length (lent l part) → (more : List ℕ) × (lent l part ≡ part ++ more)
-lent-whole (cut n) part h = ([], take-all n part (omega (arith, length-take n part)) ∙ sym (append-nil part))
-lent-whole (whole more) part h = (more, refl)
+pub got-whole : (l : Lent) (part : List ℕ) → length part ≤ length (got l part) → (more : List ℕ) × (got l part ≡ part ++ more)
+got-whole (cut n) part h = ([], take-all n part (omega (arith, length-take n part)) ∙ sym (append-nil part))
+got-whole (whole more) part h = (more, refl)
 
 -- a lent part that the call left as it was
-pub back-same : (l : Lent) (part : List ℕ) → back part (lent l part) ≡ part
+pub back-same : (l : Lent) (part : List ℕ) → back part (got l part) ≡ part
 back-same (cut n) part =
     ap (take (length part))
     (elim (decLe n (length part)) [
@@ -42,35 +41,25 @@ back-new part new more e =
     ap (take (length part)) (append-assoc new more (drop (length (new ++ more)) part)) ∙ take-at new (more ++ drop (length (new ++ more)) part) (length part) e
 
 pub take-back-same : (l : Lending) (b : Board) → take-back b (lend l b) ≡ b
-take-back-same l b =
-    let o = back-same (l .operators) (b .operators) in
-    let r = back-same (l .rides) (b .rides) in
-    let s = back-same (l .stamps) (b .stamps) in
-    let i = back-same (l .index) (b .index) in
-    λ j. record { head = b .head; operators = o j; rides = r j; stamps = s j; index = i j }
+take-back-same l b = λ j. record { head = b .head; part = λ p. back-same (l p) (b .part p) j }
 
 -- ---- boards of the lengths under Layout
 
-pub record Laid (h : Head) (b : Board) : Type 0 where
-  pub operators : length (b .operators) ≡ pair-places h
-  pub rides : length (b .rides) ≡ pair-places h
-  pub stamps : length (b .stamps) ≡ pair-places h
-  pub index : length (b .index) ≡ index-places h
+abbrev pub Laid : Head → Board → Type 0
+Laid h b = (p : Part) → length (b .part p) ≡ places h p
 
-pub take-back-new : (h : Head) (b new : Board) (o r s i : List ℕ) → Laid h b → Laid h new → take-back b (extend new o r s i) ≡ new
-take-back-new h b new o r s i d e =
-    let eo = back-new (b .operators) (new .operators) o (e .operators ∙ sym (d .operators)) in
-    let er = back-new (b .rides) (new .rides) r (e .rides ∙ sym (d .rides)) in
-    let es = back-new (b .stamps) (new .stamps) s (e .stamps ∙ sym (d .stamps)) in
-    let ei = back-new (b .index) (new .index) i (e .index ∙ sym (d .index)) in
-    λ j. record { head = new .head; operators = eo j; rides = er j; stamps = es j; index = ei j }
+pub take-back-new : (h : Head) (b new : Board) (more : Parts) → Laid h b → Laid h new → take-back b (extend new more) ≡ new
+take-back-new h b new more d e = λ j. record { head = new .head; part = λ p. back-new (b .part p) (new .part p) (more p) (e p ∙ sym (d p)) j }
+
+-- lent long enough, a board has some words behind it
+pub lend-whole : (h : Head) (l : Lending) (b : Board) → Laid h b → ((p : Part) → places h p ≤ length (got (l p) (b .part p))) → (more : Parts) × (lend l b ≡ extend b more)
+lend-whole h l b d long =
+    let each : (p : Part) → (more : List ℕ) × (got (l p) (b .part p) ≡ b .part p ++ more) = λ p. got-whole (l p) (b .part p) (omega (arith, long p, d p)) in
+    (λ p. each p .0, λ j. record { head = b .head; part = λ p. each p .1 j })
 
 -- case 3 by the lengths is case 3 of the lent board
-pub parts-short-board : (h : Head) (l : Lending) (b : Board) → Laid h b → pair-places (b .head) ≡ pair-places h → index-places (b .head) ≡ index-places h → board-short (lend l b) ≡ parts-short h l
-parts-short-board h l b d p q =
-    let test : (x : Lent) (part : List ℕ) (n n′ : ℕ) → length part ≡ n → n′ ≡ n → ltb (length (lent x part)) n′ ≡ ltb (lent-length n x) n = λ x part n n′ e f. ap₂ ltb (length-lent x part ∙ ap (λ (k : ℕ). lent-length k x) e) f in
-    let eo = test (l .operators) (b .operators) (pair-places h) (pair-places (b .head)) (d .operators) p in
-    let er = test (l .rides) (b .rides) (pair-places h) (pair-places (b .head)) (d .rides) p in
-    let es = test (l .stamps) (b .stamps) (pair-places h) (pair-places (b .head)) (d .stamps) p in
-    let ei = test (l .index) (b .index) (index-places h) (index-places (b .head)) (d .index) q in
-    λ j. eo j || er j || es j || ei j
+pub parts-short-board : (h : Head) (l : Lending) (b : Board) → Laid h b → ((p : Part) → places (b .head) p ≡ places h p) → board-short (lend l b) ≡ parts-short h l
+unfolding board-short
+parts-short-board h l b d e =
+    let each : (p : Part) → ltb (length (got (l p) (b .part p))) (places (b .head) p) ≡ ltb (lent-length (places h p) (l p)) (places h p) = λ p. ap₂ ltb (length-got (l p) (b .part p) ∙ ap (λ (k : ℕ). lent-length k (l p)) (d p)) (e p) in
+    λ j. some-part (λ p. each p j) all-parts

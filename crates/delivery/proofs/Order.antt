@@ -3,7 +3,6 @@ use mathlib.Core.Path.{_≡_, sym, ap, subst}
 use mathlib.Core.Logic.{inl, inr}
 use mathlib.Core.List.{List, [], _∷_, _++_, List·Memᴰ, List·Memᴰ·cases-cons, List·Memᴰ·not-nil, List·Memᴰ·append-cases, Memᴰ·append-left, Memᴰ·append-right}
 use Prim.Native.Nat.{ℕ, zero, suc, _≤_}
-use native.Mathlib.Omega.{arith}
 use lib.Dec.{T}
 use Rattle.model.specs.declared.Head.{Head}
 use Rattle.model.specs.declared.Message.{Message}
@@ -11,7 +10,7 @@ use Rattle.model.specs.Layout.{Board}
 use Rattle.model.proofs.Count.{by-test}
 use Rattle.delivery.specs.Calls.{Call, sent, after, case, delivered}
 use Rattle.delivery.specs.Book.{too-short, valid, valid-ones, entered, entries, written}
-use Rattle.delivery.proofs.Latest.{AllValid, valid-append, latest-same}
+use Rattle.delivery.proofs.Latest.{AllValid, valid-append, latest-same, covered-members}
 use Rattle.delivery.proofs.Run.{valid-in, valid-out, entered-short, entered-long, valid-entered, case-short, case-long, after-written, written-same}
 
 -- the valid messages of a list are its valid ones
@@ -83,7 +82,7 @@ module _ (h : Head) (few : h .operators ≤ 200) (few′ : h .rides ≤ 60) wher
       ]
 
 -- books with the same set of entries give the same board
-pub written-set : (h : Head) (es fs : List Message) → AllValid h es → AllValid h fs → ((m : Message) → List·Memᴰ m es → List·Memᴰ m fs) → ((m : Message) → List·Memᴰ m fs → List·Memᴰ m es) → written h es ≡ written h fs
-written-set h es fs a b there back =
+pub written-set : (h : Head) (es fs : List Message) → ((m : Message) → List·Memᴰ m es → List·Memᴰ m fs) → ((m : Message) → List·Memᴰ m fs → List·Memᴰ m es) → written h es ≡ written h fs
+written-set h es fs there back =
     written-same h es fs
-    (λ u v _ _. latest-same h es fs u v a b (λ e i p q. (e, there e i, p, q, omega arith)) (λ e i p q. (e, back e i, p, q, omega arith)))
+    (λ t _. latest-same es fs t (covered-members es fs t (λ e i _. there e i)) (covered-members fs es t (λ e i _. back e i)))

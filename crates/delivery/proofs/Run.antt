@@ -1,26 +1,29 @@
 -- The board after calls is the one worked out from the book: one message, the messages of a list, one call, a list of calls. Assumes nothing.
-use mathlib.Core.Path.{_≡_, refl, sym, ap, ap₂, _∙_, subst, subst₂}
+use mathlib.Core.Path.{_≡_, refl, sym, ap, _∙_, subst}
 use mathlib.Core.Logic.{inl, inr}
 use mathlib.Core.Bool.{Bool, true, false, _||_, not}
 use mathlib.Core.List.{List, [], _∷_, _++_, append-nil, append-assoc, List·Memᴰ, List·Memᴰ·cases-cons, List·Memᴰ·not-nil}
 use mathlib.Core.Option.{Option, none, some}
-use Prim.Native.Nat.{ℕ, zero, suc, _≤_, _<_}
+use Prim.Native.Nat.{ℕ, zero, suc, _≤_}
 use native.Mathlib.Omega.{arith}
-use lib.Dec.{T, ltb, eqb, T-not, not-T}
+use lib.Dec.{T, ltb, T-not, not-T}
 use lib.ListN.{length, set}
 use Rattle.model.specs.declared.Head.{Head}
 use Rattle.model.specs.declared.Message.{Message}
-use Rattle.model.specs.Layout.{Board}
-use Rattle.model.specs.Refusal.{refused-3, refused-10, later, last-kind, lowest-number, board-short, message-refusal, list-refusal}
-use Rattle.model.specs.Message.{with-pair, MessageOutcome, board-message, ListOutcome, in-order}
+use Rattle.model.specs.Layout.{Parts, Board, onto}
+use Rattle.model.specs.Contents.{Slot, Entry, Contents, later, slot, entry, put, contents}
+use Rattle.model.specs.Refusal.{refused-3, refused-10, first-number, board-short, message-refusal, list-refusal}
+use Rattle.model.specs.Message.{MessageOutcome, board-after, board-message, ListOutcome, in-order}
 use Rattle.model.proofs.Count.{by-test, test-true, test-false, or-left, or-right, or-cases}
-use Rattle.model.proofs.Refusal.{lowest-here, lowest-skip, enough, Accepted, Valid, board-long, short-three, taken-none, message-valid, list-accepted}
-use Rattle.model.proofs.Taken.{by-pair, with-pair-same, with-pair-other, message-taken, message-refused, list-taken, list-refused}
+use Rattle.model.proofs.Chain.{first-nil, first-here, first-skip, enough}
+use Rattle.model.proofs.Parts.{board-long}
+use Rattle.model.proofs.Refusal.{Accepted, Valid, short-three, taken-none, message-valid, list-accepted}
+use Rattle.model.proofs.Contents.{by-slot, put-same, put-other, Within, length-words, places-of, extend, contents-of, accepted-of, board-of-same, board-of-sizes, onto-extend}
+use Rattle.model.proofs.Taken.{valid-within, message-taken, message-refused, list-taken, list-refused}
 use Rattle.delivery.specs.Calls.{Lending, Call, message, messages, sent, lend, take-back, after, run, returned, case}
-use Rattle.delivery.specs.Book.{parts-short, too-short, valid, valid-ones, entered, entries, latest, granted, stamped, filled, written}
-use Rattle.delivery.proofs.Latest.{valid-test, test-valid, Is, latest-is, AllValid, Same, valid-append, newer, entry-newer, entry-older, entry-other}
-use Rattle.delivery.proofs.Filled.{extend, length-operators, length-rides, length-stamps, length-index, cleared-filled, stamp-filled, accepted-filled, filled-same, after-filled}
-use Rattle.delivery.proofs.Lending.{lent-whole, take-back-same, Laid, take-back-new, parts-short-board}
+use Rattle.delivery.specs.Book.{parts-short, too-short, valid, valid-ones, entered, entries, latest, said, written}
+use Rattle.delivery.proofs.Latest.{valid-test, test-valid, Is, latest-is, AllValid, valid-append, newer, entry-newer, entry-older, entry-other}
+use Rattle.delivery.proofs.Lending.{take-back-same, Laid, take-back-new, lend-whole, parts-short-board}
 
 -- ---- valid messages
 
@@ -49,42 +52,33 @@ all-valid h (m ∷ ms) e i =
 -- ---- boards worked out from a book
 
 module _ (h : Head) (es : List Message) where
+  -- what the book says
+  abbrev says : Contents
+  says t = said (latest es t)
+
   pub laid-written : Laid h (written h es)
   unfolding written
-  laid-written =
-      let c : ℕ → ℕ → Bool = λ u v. granted (latest es u v) in
-      let s : ℕ → ℕ → ℕ = λ u v. stamped (latest es u v) in
-      record {
-        operators = length-operators h c s;
-        rides = length-rides h c s;
-        stamps = length-stamps h c s;
-        index = length-index h c s;
-      }
+  laid-written = length-words h says
 
-  granted-stamped : AllValid h es → (u v : ℕ) (o : Option Message) → Is es u v o → T (granted o) → 1 ≤ stamped o
-  granted-stamped a u v none is t = absurd t
-  granted-stamped a u v (some e) is t = a e (is .entry) .stamp
+  said-stamped : AllValid h es → (t : Slot) (o : Option Message) → Is es t o → T (said o .gives) → 1 ≤ said o .stamp
+  said-stamped a t none is g = absurd g
+  said-stamped a t (some e) is g = a e (is .member) .stamp
 
   -- 1 to 6 do not apply to them, as they are lent
-  pub accepted-written : h .operators ≤ 200 → h .rides ≤ 60 → AllValid h es → (o r s i : List ℕ) → Accepted (extend (written h es) o r s i)
+  pub accepted-written : h .operators ≤ 200 → h .rides ≤ 60 → AllValid h es → (more : Parts) → Accepted (extend (written h es) more)
   unfolding written
-  accepted-written few few′ a o r s i =
-      accepted-filled h (λ u v. granted (latest es u v)) (λ u v. stamped (latest es u v)) o r s i few few′
-      (λ u v p q. granted-stamped a u v (latest es u v) (latest-is es u v))
+  accepted-written few few′ a more = accepted-of h says more few few′ (λ t w. said-stamped a t (latest es t) (latest-is es t))
 
-  pub written-same : (fs : List Message) → ((u v : ℕ) → u < h .operators → v < h .rides → Same (latest es u v) (latest fs u v)) → written h es ≡ written h fs
+  pub written-same : (fs : List Message) → ((t : Slot) → Within h t → said (latest es t) ≡ said (latest fs t)) → written h es ≡ written h fs
   unfolding written
-  written-same fs e =
-      filled-same h (λ u v. granted (latest es u v)) (λ u v. granted (latest fs u v)) (λ u v. stamped (latest es u v)) (λ u v. stamped (latest fs u v))
-      (λ u v a b. e u v a b .0)
-      (λ u v a b. e u v a b .1)
+  written-same fs e = board-of-same h says (λ t. said (latest fs t)) e
 
 -- ---- one message
 
-module _ (h : Head) (few : h .operators ≤ 200) (few′ : h .rides ≤ 60) (o r s i : List ℕ) where
+module _ (h : Head) (few : h .operators ≤ 200) (few′ : h .rides ≤ 60) (more : Parts) where
   -- the board of a book as it is lent
   abbrev lent-board : List Message → Board
-  lent-board es = extend (written h es) o r s i
+  lent-board es = extend (written h es) more
 
   module _ (es : List Message) (es-valid : AllValid h es) (m : Message) where
     module _ (v : Valid h m) where
@@ -92,7 +86,7 @@ module _ (h : Head) (few : h .operators ≤ 200) (few′ : h .rides ≤ 60) (o r
       board = lent-board es
 
       valid-board : Valid (board .head) m
-      unfolding written filled
+      unfolding written
       valid-board =
           record {
             kind-low = v .kind-low;
@@ -102,41 +96,46 @@ module _ (h : Head) (few : h .operators ≤ 200) (few′ : h .rides ≤ 60) (o r
             stamp = v .stamp;
           }
 
+      -- the board says of each slot what the book says
+      board-says : (t : Slot) → Within h t → contents board t ≡ said (latest es t)
+      unfolding written
+      board-says = contents-of h (says h es) more
+
       -- 10, by the book
-      ten : refused-10 board m ≡ not (newer h m v (latest es (m .operator) (m .ride)))
-      unfolding refused-10 written filled
-      ten =
-          let c : ℕ → ℕ → Bool = λ a d. granted (latest es a d) in
-          let w : ℕ → ℕ → ℕ = λ a d. stamped (latest es a d) in
-          ap₂ (λ (x : Bool) (y : ℕ). not (later (m .kind) (m .stamp) (last-kind x) y))
-          (cleared-filled h c w o r s i (m .operator) (m .ride) (v .operator) (v .ride))
-          (stamp-filled h c w o r s i (m .operator) (m .ride) (v .operator) (v .ride))
+      ten : refused-10 board m ≡ not (newer h m v es)
+      unfolding refused-10
+      ten = ap (λ (e : Entry). not (later (entry m) e)) (board-says (slot m) (valid-within h m v))
 
-      decided : message-refusal board m ≡ lowest-number ((10, refused-10 board m) ∷ [])
-      decided = message-valid board m (accepted-written h es few few′ es-valid o r s i) valid-board
+      decided : message-refusal board m ≡ first-number ((10, refused-10 board m) ∷ [])
+      decided = message-valid board m (accepted-written h es few few′ es-valid more) valid-board
 
-      newer-taken : T (newer h m v (latest es (m .operator) (m .ride))) → board-message board m .board ≡ lent-board (es ++ (m ∷ []))
-      unfolding written lowest-number
+      abbrev fs : List Message
+      fs = es ++ (m ∷ [])
+
+      next-says : T (newer h m v es) → (t : Slot) → Within h t → put (contents board) (slot m) (entry m) t ≡ said (latest fs t)
+      next-says n t w =
+          by-slot t (slot m)
+          (λ q. subst (λ (x : Slot). put (contents board) (slot m) (entry m) x ≡ said (latest fs x)) (sym q) (put-same (contents board) (slot m) (entry m) ∙ sym (entry-newer h m v es n)))
+          (λ k. put-other (contents board) (slot m) (entry m) t k ∙ board-says t w ∙ sym (entry-other h m v es t k))
+
+      newer-taken : T (newer h m v es) → board-message board m .board ≡ lent-board fs
+      unfolding written board-after
       newer-taken t =
-          let fs : List Message = es ++ (m ∷ []) in
-          let e = entry-newer h m v es es-valid t in
-          ap (λ (x : MessageOutcome). x .board) (message-taken board m (decided ∙ lowest-skip 10 (refused-10 board m) [] (λ x. T-not (newer h m v (latest es (m .operator) (m .ride))) (subst T ten x) t))) ∙
-          after-filled h (λ a d. granted (latest es a d)) (λ a d. granted (latest fs a d)) (λ a d. stamped (latest es a d)) (λ a d. stamped (latest fs a d)) m v o r s i
-          (λ a d _ _. by-pair a d (m .operator) (m .ride)
-          (λ p q. subst₂ (λ (x y : ℕ). with-pair (λ (a d : ℕ). granted (latest es a d)) (m .operator) (m .ride) (eqb (m .kind) 1) x y ≡ granted (latest fs x y)) (sym p) (sym q) (with-pair-same (λ (a d : ℕ). granted (latest es a d)) (m .operator) (m .ride) (eqb (m .kind) 1) ∙ sym (e .0)))
-          (λ n. with-pair-other (λ (a d : ℕ). granted (latest es a d)) (m .operator) (m .ride) (eqb (m .kind) 1) a d n ∙ sym (entry-other h m v es es-valid a d n .0)))
-          (e .1)
-          (λ a d _ _ n. entry-other h m v es es-valid a d n .1)
+          ap (λ (x : MessageOutcome). x .board) (message-taken board m (decided ∙ first-skip 10 (refused-10 board m) [] (λ x. T-not (newer h m v es) (subst T ten x) t) ∙ first-nil)) ∙
+          ap (λ (b : Board). onto b (board .part)) (board-of-sizes h (says h es) (put (contents board) (slot m) (entry m)) ∙ board-of-same h (put (contents board) (slot m) (entry m)) (says h fs) (next-says t)) ∙
+          onto-extend h (says h fs) (says h es) more
 
-      older-refused : (T (newer h m v (latest es (m .operator) (m .ride))) → ⊥) → board-message board m .board ≡ lent-board (es ++ (m ∷ []))
+      older-refused : (T (newer h m v es) → ⊥) → board-message board m .board ≡ lent-board fs
       older-refused n =
-          ap (λ (x : MessageOutcome). x .board) (message-refused board m 9 (decided ∙ lowest-here 10 (refused-10 board m) [] (subst T (sym ten) (not-T (newer h m v (latest es (m .operator) (m .ride))) n)))) ∙
-          ap (λ (b : Board). extend b o r s i)
-          (written-same h es (es ++ (m ∷ []))
-          (λ a d _ _. let same : Same (latest (es ++ (m ∷ [])) a d) (latest es a d) = by-pair a d (m .operator) (m .ride) (λ p q. subst₂ (λ (x y : ℕ). Same (latest (es ++ (m ∷ [])) x y) (latest es x y)) (sym p) (sym q) (entry-older h m v es es-valid n)) (entry-other h m v es es-valid a d) in (sym (same .0), sym (same .1))))
+          ap (λ (x : MessageOutcome). x .board) (message-refused board m 9 (decided ∙ first-here 10 (refused-10 board m) [] (subst T (sym ten) (not-T (newer h m v es) n)))) ∙
+          ap (λ (b : Board). extend b more)
+          (written-same h es fs
+          (λ t _. by-slot t (slot m)
+          (λ q. subst (λ (x : Slot). said (latest es x) ≡ said (latest fs x)) (sym q) (sym (entry-older h m v es n)))
+          (λ k. sym (entry-other h m v es t k))))
 
     invalid-refused : (T (valid h m) → ⊥) → board-message (lent-board es) m .board ≡ lent-board es
-    unfolding written filled
+    unfolding written
     invalid-refused n = go (message-refusal (lent-board es) m) refl
       where
         go : (k : ℕ) → message-refusal (lent-board es) m ≡ k → board-message (lent-board es) m .board ≡ lent-board es
@@ -150,7 +149,7 @@ module _ (h : Head) (few : h .operators ≤ 200) (few′ : h .rides ≤ 60) (o r
     message-written =
         by-test (valid h m)
         (λ t. let v = valid-test h m t in
-        by-test (newer h m v (latest es (m .operator) (m .ride))) (newer-taken v) (older-refused v) ∙
+        by-test (newer h m v es) (newer-taken v) (older-refused v) ∙
         ap (λ (x : List Message). lent-board (es ++ x)) (sym (valid-in h m [] t)))
         (λ n. invalid-refused n ∙ ap lent-board (sym (append-nil es)) ∙ ap (λ (x : List Message). lent-board (es ++ x)) (sym (valid-out h m [] n)))
 
@@ -187,29 +186,24 @@ module _ (h : Head) (few : h .operators ≤ 200) (few′ : h .rides ≤ 60) (es 
 
   -- the parts are too short by their lengths exactly if the lent board's are
   short-written : (l : Lending) → board-short (lend l written-es) ≡ parts-short h l
-  unfolding written filled
-  short-written l = parts-short-board h l written-es (laid-written h es) refl refl
+  unfolding written
+  short-written l = parts-short-board h l written-es (laid-written h es) (places-of h (says h es))
 
   -- lent long enough, the board has some words behind it
-  lend-written : (l : Lending) → (T (parts-short h l) → ⊥) → (o : List ℕ) × (r : List ℕ) × (s : List ℕ) × (i : List ℕ) × (lend l written-es ≡ extend written-es o r s i)
-  unfolding written filled
+  lend-written : (l : Lending) → (T (parts-short h l) → ⊥) → (more : Parts) × (lend l written-es ≡ extend written-es more)
+  unfolding written
   lend-written l n =
-      let long = board-long (lend l written-es) (λ t. n (subst T (short-written l) t)) in
-      let d = laid-written h es in
-      let o = lent-whole (l .operators) (written-es .operators) (omega (arith, long .0, d .operators)) in
-      let r = lent-whole (l .rides) (written-es .rides) (omega (arith, long .1, d .rides)) in
-      let s = lent-whole (l .stamps) (written-es .stamps) (omega (arith, long .2, d .stamps)) in
-      let i = lent-whole (l .index) (written-es .index) (omega (arith, long .3, d .index)) in
-      (o .0, r .0, s .0, i .0, λ j. record { head = written-es .head; operators = o .1 j; rides = r .1 j; stamps = s .1 j; index = i .1 j })
+      lend-whole h l written-es (laid-written h es)
+      (λ p. omega (arith, board-long (lend l written-es) (λ t. n (subst T (short-written l) t)) p, places-of h (says h es) p))
 
   -- ---- case 3
 
   short-message : (l : Lending) (m : Message) → T (parts-short h l) → message-refusal (lend l written-es) m ≡ 3
-  unfolding written filled message-refusal
+  unfolding written message-refusal
   short-message l m t = short-three (lend l written-es) (board-short (lend l written-es)) _ few few′ (subst T (sym (short-written l)) t)
 
   short-list : (l : Lending) (n : ℕ) (answers : List ℕ) → T (parts-short h l || ltb (length answers) n) → list-refusal (lend l written-es) n answers ≡ 3
-  unfolding written filled list-refusal
+  unfolding written list-refusal
   short-list l n answers t =
       short-three (lend l written-es) (board-short (lend l written-es) || refused-3 n answers) _ few few′ (subst (λ (x : Bool). T (x || ltb (length answers) n)) (sym (short-written l)) t)
 
@@ -232,8 +226,8 @@ module _ (h : Head) (few : h .operators ≤ 200) (few′ : h .rides ≤ 60) (es 
   long-list : AllValid h es → (l : Lending) (n : ℕ) (answers : List ℕ) → (T (parts-short h l || ltb (length answers) n) → ⊥) → list-refusal (lend l written-es) n answers ≡ 0
   long-list a l n answers long =
       let w = lend-written l (λ t. long (or-left (parts-short h l) (ltb (length answers) n) t)) in
-      ap (λ (b : Board). list-refusal b n answers) (w .4) ∙
-      list-accepted (extend written-es (w .0) (w .1) (w .2) (w .3)) n answers (accepted-written h es few few′ a (w .0) (w .1) (w .2) (w .3)) (enough (length answers) n (λ t. long (or-right (parts-short h l) (ltb (length answers) n) t)))
+      ap (λ (b : Board). list-refusal b n answers) (w .1) ∙
+      list-accepted (extend written-es (w .0)) n answers (accepted-written h es few few′ a (w .0)) (enough (length answers) n (λ t. long (or-right (parts-short h l) (ltb (length answers) n) t)))
 
   pub case-short : (c : Call) → T (too-short h c) → case written-es c ≡ 3
   unfolding case too-short
@@ -258,16 +252,16 @@ module _ (h : Head) (few : h .operators ≤ 200) (few′ : h .rides ≤ 60) (es 
   after-long a (message l m) n =
       let w = lend-written l n in
       let fs : List Message = es ++ valid-ones h (m ∷ []) in
-      ap (λ (b : Board). take-back written-es (board-message b m .board)) (w .4) ∙
-      ap (take-back written-es) (message-written h few few′ (w .0) (w .1) (w .2) (w .3) es a m) ∙
-      take-back-new h written-es (written h fs) (w .0) (w .1) (w .2) (w .3) (laid-written h es) (laid-written h fs)
+      ap (λ (b : Board). take-back written-es (board-message b m .board)) (w .1) ∙
+      ap (take-back written-es) (message-written h few few′ (w .0) es a m) ∙
+      take-back-new h written-es (written h fs) (w .0) (laid-written h es) (laid-written h fs)
   after-long a (messages l ms answers) n =
       let w = lend-written l (λ t. n (or-left (parts-short h l) (ltb (length answers) (length ms)) t)) in
       let fs : List Message = es ++ valid-ones h ms in
       ap (λ (x : ListOutcome). take-back written-es (x .board)) (list-taken (lend l written-es) ms answers (long-list a l (length ms) answers n)) ∙
-      ap (λ (b : Board). take-back written-es (in-order ms 0 b answers .board)) (w .4) ∙
-      ap (take-back written-es) (in-order-written h few few′ (w .0) (w .1) (w .2) (w .3) ms es a 0 answers) ∙
-      take-back-new h written-es (written h fs) (w .0) (w .1) (w .2) (w .3) (laid-written h es) (laid-written h fs)
+      ap (λ (b : Board). take-back written-es (in-order ms 0 b answers .board)) (w .1) ∙
+      ap (take-back written-es) (in-order-written h few few′ (w .0) ms es a 0 answers) ∙
+      take-back-new h written-es (written h fs) (w .0) (laid-written h es) (laid-written h fs)
 
   pub after-written : AllValid h es → (c : Call) → after written-es c ≡ written h (es ++ entered h c)
   after-written a c =

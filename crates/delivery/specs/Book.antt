@@ -1,17 +1,15 @@
 -- Document 01, Book: the entries, and the board worked out from them. No answer and no word of the board comes in.
-use mathlib.Core.Bool.{Bool, true, false, _&&_, _||_, not}
-use mathlib.Core.List.{List, [], _∷_, _++_, map}
+use mathlib.Core.Bool.{Bool, true, false, _||_, not}
+use mathlib.Core.List.{List, [], _∷_, _++_}
 use mathlib.Core.Option.{Option, none, some}
-use Prim.Native.Nat.{ℕ, zero, suc, _+_, _/_, _%_, min}
-use lib.Dec.{ltb, eqb}
+use Prim.Native.Nat.{ℕ, zero, suc, _+_, min}
+use lib.Dec.{ltb}
 use lib.ListN.{length, getD}
 use Rattle.model.specs.declared.Head.{Head}
 use Rattle.model.specs.declared.Message.{Message}
-use Rattle.model.specs.Count.{rows}
-use Rattle.model.specs.Graph.{Graph, index-of}
-use Rattle.model.specs.Layout.{Board, pair-places, index-places, sized}
-use Rattle.model.specs.Refusal.{refused-7, refused-8, refused-9, later}
-use Rattle.model.specs.Message.{pair-numbers, padded}
+use Rattle.model.specs.Layout.{Board, places, all-parts, some-part}
+use Rattle.model.specs.Contents.{Slot, same-slot, Entry, later, slot, entry, unheard, board-of}
+use Rattle.model.specs.Refusal.{refused-7, refused-8, refused-9}
 use Rattle.delivery.specs.Calls.{Lent, Lending, Call, sent}
 
 -- the length of what is lent of a part that has so many places
@@ -22,10 +20,7 @@ lent-length places (Lent.whole more) = places + length more
 -- a part of the board is lent too short, by the lengths
 abbrev pub parts-short : Head → Lending → Bool
 parts-short h l =
-    ltb (lent-length (pair-places h) (l .operators)) (pair-places h) ||
-    ltb (lent-length (pair-places h) (l .rides)) (pair-places h) ||
-    ltb (lent-length (pair-places h) (l .stamps)) (pair-places h) ||
-    ltb (lent-length (index-places h) (l .index)) (index-places h)
+    some-part (λ p. ltb (lent-length (places h p) (l p)) (places h p)) all-parts
 
 -- case 3 of a call, by the lengths of what is lent: a part of the board or the answer list is too short
 unfoldable pub too-short : Head → Call → Bool
@@ -64,36 +59,18 @@ book h operators rides start calls = grants (h .pairs) operators rides start ++ 
 -- the later of an entry and the latest of others
 abbrev pub later-one : Message → Option Message → Option Message
 later-one e none = some e
-later-one e (some f) = elim (later (e .kind) (e .stamp) (f .kind) (f .stamp)) [ true ↦ some e | false ↦ some f ]
+later-one e (some f) = elim (later (entry e) (entry f)) [ true ↦ some e | false ↦ some f ]
 
--- the latest entry for the pair (u, v), if there is one
-unfoldable pub latest : List Message → ℕ → ℕ → Option Message
-latest [] u v = none
-latest (e ∷ es) u v =
-    elim (eqb (e .operator) u && eqb (e .ride) v) [ true ↦ later-one e (latest es u v) | false ↦ latest es u v ]
+-- the latest entry for a slot, if there is one
+unfoldable pub latest : List Message → Slot → Option Message
+latest [] t = none
+latest (e ∷ es) t = elim (same-slot (slot e) t) [ true ↦ later-one e (latest es t) | false ↦ latest es t ]
 
--- a pair with this latest entry is listed exactly if that is a grant
-abbrev pub granted : Option Message → Bool
-granted none = false
-granted (some e) = eqb (e .kind) 1
+-- what the book says of a slot with this latest entry; with no entry it was never heard of
+abbrev pub said : Option Message → Entry
+said none = unheard
+said (some e) = entry e
 
--- its stamp; 0 with no entry
-abbrev pub stamped : Option Message → ℕ
-stamped none = 0
-stamped (some e) = e .stamp
-
--- the board of the sizes of h with these listed pairs and stamps: pairs in ascending order, then zeros; levels by the definition
-unfoldable pub filled : Head → (ℕ → ℕ → Bool) → (ℕ → ℕ → ℕ) → Board
-filled h clear stamp =
-    let g : Graph = sized h clear in
-    record {
-      head = record { operators = h .operators; rides = h .rides; pairs = length (pair-numbers g) };
-      operators = padded (pair-places h) (map (λ k. k / h .rides) (pair-numbers g));
-      rides = padded (pair-places h) (map (λ k. k % h .rides) (pair-numbers g));
-      stamps = rows (h .operators) (h .rides) stamp;
-      index = index-of g;
-    }
-
--- the board worked out from a book
+-- the board worked out from a book: a pair with an entry has its latest entry's stamp, and is listed exactly if that is a grant
 unfoldable pub written : Head → List Message → Board
-written h es = filled h (λ u v. granted (latest es u v)) (λ u v. stamped (latest es u v))
+written h es = board-of h (λ t. said (latest es t))

@@ -4,7 +4,7 @@ use mathlib.Core.List.{List, [], _∷_, _++_}
 use Prim.Native.Nat.{ℕ, zero, suc}
 use lib.ListN.{length, take}
 use Rattle.model.specs.declared.Message.{Message}
-use Rattle.model.specs.Layout.{Board, pair-places, index-places, over}
+use Rattle.model.specs.Layout.{Part, Board, places, over}
 use Rattle.model.specs.Refusal.{list-refusal}
 use Rattle.model.specs.Calls.{board-build}
 use Rattle.model.specs.Message.{board-message, board-messages}
@@ -15,16 +15,13 @@ pub data Lent : Type 0 where
   whole : List ℕ → Lent
 
 -- the part as the call gets it
-abbrev pub lent : Lent → List ℕ → List ℕ
-lent (cut n) part = take n part
-lent (whole more) part = part ++ more
+abbrev pub got : Lent → List ℕ → List ℕ
+got (cut n) part = take n part
+got (whole more) part = part ++ more
 
--- how the pair arrays, the stamps and the index are lent; the head has no length
-pub record Lending : Type 0 where
-  pub operators : Lent
-  pub rides : Lent
-  pub stamps : Lent
-  pub index : Lent
+-- how each part is lent; the head has no length
+abbrev pub Lending : Type 0
+Lending = Part → Lent
 
 -- a message call with its message, or a message-list call with its messages and its answer list
 pub data Call : Type 0 where
@@ -38,14 +35,7 @@ sent (messages l ms answers) = ms
 
 -- the board as a call gets it
 abbrev pub lend : Lending → Board → Board
-lend l b =
-    record {
-      head = b .head;
-      operators = lent (l .operators) (b .operators);
-      rides = lent (l .rides) (b .rides);
-      stamps = lent (l .stamps) (b .stamps);
-      index = lent (l .index) (b .index);
-    }
+lend l b = record { head = b .head; part = λ p. got (l p) (b .part p) }
 
 -- a part of the board after a call: the words lent, as the call left them, and those not lent
 abbrev pub back : List ℕ → List ℕ → List ℕ
@@ -53,14 +43,7 @@ back part left = take (length part) (over left part)
 
 -- the board after a call that left the lent board so
 abbrev pub take-back : Board → Board → Board
-take-back b left =
-    record {
-      head = left .head;
-      operators = back (b .operators) (left .operators);
-      rides = back (b .rides) (left .rides);
-      stamps = back (b .stamps) (left .stamps);
-      index = back (b .index) (left .index);
-    }
+take-back b left = record { head = left .head; part = λ p. back (b .part p) (left .part p) }
 
 -- the board after a call
 unfoldable pub after : Board → Call → Board
@@ -76,13 +59,7 @@ run b (c ∷ cs) = run (after b c) cs
 unfoldable pub built-board : Board → ℕ → Board
 built-board b start =
     let left = board-build b start .board in
-    record {
-      head = left .head;
-      operators = take (pair-places (b .head)) (left .operators);
-      rides = take (pair-places (b .head)) (left .rides);
-      stamps = take (pair-places (b .head)) (left .stamps);
-      index = take (index-places (b .head)) (left .index);
-    }
+    record { head = left .head; part = λ p. take (places (b .head) p) (left .part p) }
 
 -- the number that a call returns
 unfoldable pub returned : Board → Call → ℕ

@@ -4,7 +4,7 @@ use mathlib.Core.List.{List, _++_}
 use Prim.Native.Nat.{ℕ, _≤_}
 use lib.ListN.{length}
 use Rattle.model.specs.Graph.{index-of}
-use Rattle.model.specs.Layout.{Board, mark-places, board-graph}
+use Rattle.model.specs.Layout.{Operators, Rides, Index, Board, mark-places, board-graph}
 use Rattle.model.specs.Refusal.{build-refusal}
 use Rattle.model.specs.Calls.{board-query, board-peel}
 use Rattle.model.specs.Demand.{AllOnes, PeelLaws, CoverLaws, LevelLaws, QueryIsCore, IsCore, IndexThenQuery, BuildThenQuery, IsPeeledCore, PeelIsCore}
@@ -16,7 +16,7 @@ CallsThenIndex =
     (b : Board) (start : ℕ) (calls : List Call) →
     build-refusal b start ≡ 0 →
     let left = run (built-board b start) calls in
-    left .index ≡ index-of (board-graph left)
+    left .part Index ≡ index-of (board-graph left)
 
 -- each query of that board, its index lent with any words behind it, gives the core of the pairs that it lists, with its sizes
 abbrev pub CallsThenQuery : Type 0
@@ -27,7 +27,7 @@ CallsThenQuery =
     1 ≤ β →
     mark-places (b .head) ≤ length marks →
     let left = run (built-board b start) calls in
-    IsCore (board-graph left) α β (board-query (left .head) (left .index ++ more) α β marks)
+    IsCore (board-graph left) α β (board-query (left .head) (left .part Index ++ more) α β marks)
 
 -- each peel of it from all ones, its pair arrays lent with any words behind them, gives that core too once it is settled
 abbrev pub CallsThenPeel : Type 0
@@ -39,7 +39,7 @@ CallsThenPeel =
     mark-places (b .head) ≤ length marks →
     AllOnes (board-graph b) marks →
     let left = run (built-board b start) calls in
-    IsPeeledCore (board-graph left) α β allowed (board-peel (left .head) (left .operators ++ more) (left .rides ++ more′) marks α β allowed)
+    IsPeeledCore (board-graph left) α β allowed (board-peel (left .head) (left .part Operators ++ more) (left .part Rides ++ more′) marks α β allowed)
 
 -- Demand 2, all of it
 pub record Demand2 : Type 0 where

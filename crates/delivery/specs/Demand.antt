@@ -9,9 +9,10 @@ use lib.Dec.{T}
 use lib.ListN.{length, take}
 use Rattle.model.specs.declared.Head.{Head}
 use Rattle.model.specs.declared.Message.{Message}
-use Rattle.model.specs.Layout.{Board, over, board-graph}
-use Rattle.model.specs.Refusal.{later, build-refusal, message-refusal, list-refusal}
-use Rattle.model.specs.Message.{cleared-on, board-message, board-messages}
+use Rattle.model.specs.Layout.{Operators, Rides, Board, over, board-graph}
+use Rattle.model.specs.Contents.{Slot, later, slot, entry}
+use Rattle.model.specs.Refusal.{build-refusal, message-refusal, list-refusal}
+use Rattle.model.specs.Message.{board-message, board-messages}
 use Rattle.model.specs.Demand.{OneMove}
 use Rattle.delivery.specs.Calls.{Call, run, built-board, returned, case, delivered}
 use Rattle.delivery.specs.Book.{too-short, valid, book, latest, written}
@@ -22,7 +23,7 @@ abbrev pub BoardIsBook : Type 0
 BoardIsBook =
     (b : Board) (start : ℕ) (calls : List Call) →
     build-refusal b start ≡ 0 →
-    run (built-board b start) calls ≡ written (b .head) (book (b .head) (b .operators) (b .rides) start calls)
+    run (built-board b start) calls ≡ written (b .head) (book (b .head) (b .part Operators) (b .part Rides) start calls)
 
 -- of 1 to 6 only 3 arises in the calls of a list, exactly where a length is too short, and such a call returns it
 pub record OnlyThree : Type 0 where
@@ -31,18 +32,17 @@ pub record OnlyThree : Type 0 where
   pub returns-three : (b : Board) (start : ℕ) (calls : List Call) (c : Call) → build-refusal b start ≡ 0 → T (too-short (b .head) c) →
       returned (run (built-board b start) calls) c ≡ 3
 
--- e is a latest entry for the pair (u, v): one that no entry for it is later than
-pub record Latest (es : List Message) (u v : ℕ) (e : Message) : Type 0 where
-  pub entry : List·Memᴰ e es
-  pub operator : e .operator ≡ u
-  pub ride : e .ride ≡ v
-  pub last : (f : Message) → List·Memᴰ f es → f .operator ≡ u → f .ride ≡ v → T (later (f .kind) (f .stamp) (e .kind) (e .stamp)) → ⊥
+-- e is a latest entry for a slot: one that no entry for it is later than
+pub record Latest (es : List Message) (t : Slot) (e : Message) : Type 0 where
+  pub member : List·Memᴰ e es
+  pub about : slot e ≡ t
+  pub last : (f : Message) → List·Memᴰ f es → slot f ≡ t → T (later (entry f) (entry e)) → ⊥
 
--- the book's latest entry is one, where there is none the pair has no entry, and valid entries leave no choice of kind and stamp
+-- the book's latest entry is one, where there is none the slot has no entry, and valid entries leave no choice of kind and stamp
 pub record LatestLaws : Type 0 where
-  pub found : (es : List Message) (u v : ℕ) (e : Message) → latest es u v ≡ some e → Latest es u v e
-  pub missing : (es : List Message) (u v : ℕ) → latest es u v ≡ none → (e : Message) → List·Memᴰ e es → e .operator ≡ u → e .ride ≡ v → ⊥
-  pub only : (h : Head) (es : List Message) (u v : ℕ) (e f : Message) → ((m : Message) → List·Memᴰ m es → T (valid h m)) → Latest es u v e → Latest es u v f →
+  pub found : (es : List Message) (t : Slot) (e : Message) → latest es t ≡ some e → Latest es t e
+  pub missing : (es : List Message) (t : Slot) → latest es t ≡ none → (e : Message) → List·Memᴰ e es → slot e ≡ t → ⊥
+  pub only : (h : Head) (es : List Message) (t : Slot) (e f : Message) → ((m : Message) → List·Memᴰ m es → T (valid h m)) → Latest es t e → Latest es t f →
       (e .kind ≡ f .kind) × (e .stamp ≡ f .stamp)
 
 -- every entry of a book is valid
@@ -50,13 +50,13 @@ abbrev pub BookValid : Type 0
 BookValid =
     (b : Board) (start : ℕ) (calls : List Call) →
     build-refusal b start ≡ 0 →
-    (e : Message) → List·Memᴰ e (book (b .head) (b .operators) (b .rides) start calls) → T (valid (b .head) e)
+    (e : Message) → List·Memᴰ e (book (b .head) (b .part Operators) (b .part Rides) start calls) → T (valid (b .head) e)
 
 -- two boards as lent to a build have the same pair table
 pub record SameTable (b b′ : Board) : Type 0 where
   pub head : b .head ≡ b′ .head
-  pub operators : take (b .head .pairs) (b .operators) ≡ take (b .head .pairs) (b′ .operators)
-  pub rides : take (b .head .pairs) (b .rides) ≡ take (b .head .pairs) (b′ .rides)
+  pub operators : take (b .head .pairs) (b .part Operators) ≡ take (b .head .pairs) (b′ .part Operators)
+  pub rides : take (b .head .pairs) (b .part Rides) ≡ take (b .head .pairs) (b′ .part Rides)
 
 -- two lists alike in pair table, starting stamp and the set of valid messages delivered leave the same board,
 -- in whatever order, however often and however cut into calls these come
@@ -71,11 +71,11 @@ AnyOrder =
 
 -- Demand 3, its last sentence: on any board where a message is taken, how levels by the definition move
 pub record OneMessage : Type 0 where
-  -- up, where a grant adds its pair
-  pub grant : (b : Board) (m : Message) → message-refusal b m ≡ 0 → m .kind ≡ 1 → cleared-on b (m .operator) (m .ride) ≡ false →
+  -- up for a grant, which adds its pair where needed
+  pub grant : (b : Board) (m : Message) → message-refusal b m ≡ 0 → m .kind ≡ 1 →
       OneMove (board-graph b) (board-graph (board-message b m .board)) (m .operator)
-  -- down, where a withdrawal removes it
-  pub withdrawal : (b : Board) (m : Message) → message-refusal b m ≡ 0 → m .kind ≡ 2 → cleared-on b (m .operator) (m .ride) ≡ true →
+  -- down for a withdrawal, which removes it where needed
+  pub withdrawal : (b : Board) (m : Message) → message-refusal b m ≡ 0 → m .kind ≡ 2 →
       OneMove (board-graph (board-message b m .board)) (board-graph b) (m .operator)
 
 -- the board after messages sent one after another by message calls

@@ -4,17 +4,40 @@ ghost use Prim.Native.Nat.{_≤_, _<_};
 use libc::STDIN_FILENO;
 use libc::STDOUT_FILENO;
 
+// The next count of a stream, and whether the stream had one more.
+pub struct Counted {
+    pub more: bool,
+    pub count: u16,
+}
+
+// Reads the next count of the stream.
+pub fn count() -> Counted {
+    let mut bytes = [0u8; 2];
+    let read = io::read_full(STDIN_FILENO, &mut bytes);
+    Counted {
+        more: read == 2,
+        count: word(&bytes, 0),
+    }
+}
+
+// Reads so many bytes to the start of the buffer, of those that there are, and answers how many.
+pub fn read(buffer: &mut [u8], bytes: usize) -> usize
+    ensures { λ r. do ⌜ r ≤ (← ⟦buffer.len()⟧ .entry) ⌝ }
+{
+    let room = least(bytes, buffer.len());
+    least(io::read_full(STDIN_FILENO, &mut buffer[0..room]), room)
+}
+
 // Reads the next frame to the start of the buffer, and answers how many bytes it has: 0 at the end of the stream.
 pub fn next(buffer: &mut [u8]) -> usize
     ensures { λ r. do ⌜ r ≤ (← ⟦buffer.len()⟧ .entry) ⌝ }
 {
-    let mut count = [0u8; 2];
-    io::read_full(STDIN_FILENO, &mut count);
-    let bytes = least(2 * (word(&count, 0) as usize), buffer.len());
-    least(io::read_full(STDIN_FILENO, &mut buffer[0..bytes]), bytes)
+    let words = count();
+    read(buffer, 2 * (words.count as usize))
 }
 
-fn least(a: usize, b: usize) -> usize
+// The smaller of the two.
+pub fn least(a: usize, b: usize) -> usize
     ensures { λ r. ⌜ r ≤ b ⌝ }
 {
     if a < b { a } else { b }
@@ -52,131 +75,121 @@ pub fn past(at: usize, words: usize) -> usize {
     at + words
 }
 
-// How many places the part at a place of the frame lends, of those that there are.
-pub fn length(frame: &[u8], at: usize, places: usize) -> usize
-    ensures { λ r. ⌜ r ≤ places ⌝ }
+// A run of places, from the first to before the end: each is set to the number at a place of the frame, which is so many
+// words further on for the next.
+struct Run {
+    first: usize,
+    end: usize,
+    at: usize,
+    stride: usize,
+}
+
+// The number where the condition holds, or else 0.
+pub fn only(condition: bool, number: usize) -> usize
+    ensures { λ r. ⌜ r ≤ number ⌝ }
 {
-    least(word(frame, at) as usize, places)
+    if condition { number } else { 0 }
 }
 
-// Sets the memory as the part at a place of the frame says, and answers the place of the next part.
-pub fn load(frame: &[u8], at: usize, memory: &mut [u16]) -> usize {
-    let n = length(frame, at, memory.len());
-    set(frame, at, &mut memory[0..n])
+// Whether the part at a place of the frame fills what it lends.
+fn fills(frame: &[u8], at: usize) -> bool {
+    word(frame, past(at, 1)) % 2 == 1
 }
 
-fn set(frame: &[u8], at: usize, lent: &mut [u16]) -> usize {
-    let mode = word(frame, past(at, 1));
-    let fill_at = past(at, 2);
-    if mode % 2 == 0 {
-        return put(frame, fill_at, mode, lent);
-    }
-    fill(lent, word(frame, fill_at));
-    put(frame, past(fill_at, 1), mode, lent)
-}
-
-fn fill(lent: &mut [u16], word: u16) {
-    let mut i = 0;
-    while i < lent.len() {
-        lent[i] = word;
-        i += 1;
+// The places that a part fills.
+fn filled(frame: &[u8], at: usize) -> Run {
+    Run {
+        first: 0,
+        end: only(fills(frame, at), word(frame, at) as usize),
+        at: past(at, 2),
+        stride: 0,
     }
 }
 
-// Puts the words of a part, where its mode says that it has any.
-fn put(frame: &[u8], at: usize, mode: u16, lent: &mut [u16]) -> usize {
-    if mode < 2 {
-        return at;
-    }
-    let first = length(frame, at, lent.len());
-    let count = length(frame, past(at, 1), lent.len() - first);
-    let end = first + count;
-    let words = past(at, 2);
-    copy(frame, words, &mut lent[first..end]);
-    past(words, count)
-}
-
-fn copy(frame: &[u8], at: usize, lent: &mut [u16]) {
-    let mut i = 0;
-    while i < lent.len() {
-        lent[i] = word(frame, past(at, i));
-        i += 1;
+// The places that a part puts words to. A number is so many words wide.
+fn put(frame: &[u8], at: usize, width: usize) -> Run {
+    let puts = word(frame, past(at, 1)) >= 2;
+    let run = past(past(at, 2), only(fills(frame, at), width));
+    let first = word(frame, run) as usize;
+    let count = word(frame, past(run, 1)) as usize;
+    Run {
+        first,
+        end: first + only(puts, count),
+        at: past(run, only(puts, 2)),
+        stride: width,
     }
 }
 
-// The same for the stamps.
-pub fn load_longs(frame: &[u8], at: usize, memory: &mut [u32]) -> usize {
-    let n = length(frame, at, memory.len());
-    set_longs(frame, at, &mut memory[0..n])
-}
-
-fn set_longs(frame: &[u8], at: usize, lent: &mut [u32]) -> usize {
-    let mode = word(frame, past(at, 1));
-    let fill_at = past(at, 2);
-    if mode % 2 == 0 {
-        return put_longs(frame, fill_at, mode, lent);
-    }
-    fill_longs(lent, long(frame, fill_at));
-    put_longs(frame, past(fill_at, 2), mode, lent)
-}
-
-fn fill_longs(lent: &mut [u32], number: u32) {
-    let mut i = 0;
-    while i < lent.len() {
-        lent[i] = number;
-        i += 1;
+// Puts a number to a place, if it is there.
+pub fn store(memory: &mut [u16], i: usize, number: u16) {
+    if i < memory.len() {
+        memory[i] = number;
     }
 }
 
-fn put_longs(frame: &[u8], at: usize, mode: u16, lent: &mut [u32]) -> usize {
-    if mode < 2 {
-        return at;
-    }
-    let first = length(frame, at, lent.len());
-    let count = length(frame, past(at, 1), lent.len() - first);
-    let end = first + count;
-    let words = past(at, 2);
-    copy_longs(frame, words, &mut lent[first..end]);
-    past(past(words, count), count)
-}
-
-fn copy_longs(frame: &[u8], at: usize, lent: &mut [u32]) {
-    let mut i = 0;
-    while i < lent.len() {
-        lent[i] = long(frame, past(past(at, i), i));
-        i += 1;
+fn store_long(memory: &mut [u32], i: usize, number: u32) {
+    if i < memory.len() {
+        memory[i] = number;
     }
 }
 
-// The places of a board's parts in a frame, and of what follows them.
-pub struct Parts {
-    pub operators: usize,
-    pub rides: usize,
-    pub stamps: usize,
-    pub index: usize,
-    pub end: usize,
+// Sets the places of a run, and answers the place of the frame after it. A part is of words or of longs, and the other
+// memory is empty.
+fn set(frame: &[u8], run: Run, words: &mut [u16], longs: &mut [u32]) -> usize {
+    let mut at = run.at;
+    for i in run.first..run.end {
+        store(words, i, word(frame, at));
+        store_long(longs, i, long(frame, at));
+        at = past(at, run.stride);
+    }
+    at
 }
 
-// Sets a board's memory as the parts from a place of the frame on say.
-pub fn load_board(
+// How many places a call lends of a part, and the place in the frame of the next part.
+pub struct Lent {
+    pub places: usize,
+    pub next: usize,
+}
+
+// Sets the memory as the part at a place of the frame says, where the frame has the part.
+fn load_part(
     frame: &[u8],
     at: usize,
-    operators: &mut [u16],
-    rides: &mut [u16],
-    stamps: &mut [u32],
-    index: &mut [u16],
-) -> Parts {
-    let rides_at = load(frame, at, operators);
-    let stamps_at = load(frame, rides_at, rides);
-    let index_at = load_longs(frame, stamps_at, stamps);
-    let end = load(frame, index_at, index);
-    Parts {
-        operators: at,
-        rides: rides_at,
-        stamps: stamps_at,
-        index: index_at,
-        end,
+    has: bool,
+    width: usize,
+    words: &mut [u16],
+    longs: &mut [u32],
+) -> Lent {
+    if !has {
+        return Lent {
+            places: 0,
+            next: at,
+        };
     }
+    set(frame, filled(frame, at), words, longs);
+    Lent {
+        places: word(frame, at) as usize,
+        next: set(frame, put(frame, at, width), words, longs),
+    }
+}
+
+pub fn load(frame: &[u8], at: usize, has: bool, memory: &mut [u16]) -> Lent {
+    load_part(frame, at, has, 1, memory, &mut [])
+}
+
+pub fn load_longs(frame: &[u8], at: usize, has: bool, memory: &mut [u32]) -> Lent {
+    load_part(frame, at, has, 2, &mut [], memory)
+}
+
+// The first places of a part, of those that there are.
+pub fn first(memory: &mut [u16], places: usize) -> &mut [u16] {
+    let n = least(places, memory.len());
+    &mut memory[0..n]
+}
+
+pub fn first_longs(memory: &mut [u32], places: usize) -> &mut [u32] {
+    let n = least(places, memory.len());
+    &mut memory[0..n]
 }
 
 // A word as a 32-bit number.
@@ -189,37 +202,29 @@ fn add(sum: u64, word: u32) -> u64 {
     (sum % 2147483647 * 65599 + word as u64) % 2147483647
 }
 
-// The checksum with the words of a part more.
-pub fn checksum(sum: u64, lent: &[u16]) -> u64 {
+// The number at a place of a part.
+fn number(words: &[u16], longs: &[u32], i: usize) -> u32 {
+    if i < words.len() {
+        return long_of(words[i]);
+    }
+    if i < longs.len() { longs[i] } else { 0 }
+}
+
+// The checksum with the first places of a part more.
+fn sum(sum: u64, places: usize, words: &[u16], longs: &[u32]) -> u64 {
     let mut h = sum;
-    let mut i = 0;
-    while i < lent.len() {
-        h = add(h, long_of(lent[i]));
-        i += 1;
+    for i in 0..places {
+        h = add(h, number(words, longs, i));
     }
     h
 }
 
-pub fn checksum_longs(sum: u64, lent: &[u32]) -> u64 {
-    let mut h = sum;
-    let mut i = 0;
-    while i < lent.len() {
-        h = add(h, lent[i]);
-        i += 1;
-    }
-    h
+pub fn checksum(h: u64, places: usize, words: &[u16]) -> u64 {
+    sum(h, places, words, &[])
 }
 
-// The checksum with the words of a board's parts more.
-pub fn checksum_board(
-    sum: u64,
-    operators: &[u16],
-    rides: &[u16],
-    stamps: &[u32],
-    index: &[u16],
-) -> u64 {
-    let pairs = checksum(checksum(sum, operators), rides);
-    checksum(checksum_longs(pairs, stamps), index)
+pub fn checksum_longs(h: u64, places: usize, longs: &[u32]) -> u64 {
+    sum(h, places, &[], longs)
 }
 
 // Writes one of a call's numbers, and a space.

@@ -1,5 +1,2 @@
-pub mod Side
-pub mod Raising
-pub mod Rows
 pub mod Stored
-pub mod Filled
+pub mod Index

@@ -12,7 +12,8 @@ use lib.ListN.{length, getD, drop, length-append, List·getD-append}
 use Rattle.model.specs.declared.Head.{Head}
 use Rattle.model.specs.Count.{bit}
 use Rattle.model.specs.Graph.{Graph, nodes, limits, Core, marked, settled, peel, level, index-of}
-use Rattle.model.specs.Layout.{Board, pair-places, mark-places, index-places, over, sized, graph, board-graph}
+use Rattle.model.specs.Layout.{Operators, Rides, Index, Board, pair-places, mark-places, index-places, over, sized, graph, board-graph}
+use Rattle.model.specs.Contents.{words}
 use Rattle.model.specs.Refusal.{refused-1, refused-2, refused-3, refused-11, refused-12, build-refusal, query-refusal, peel-refusal}
 use Rattle.model.specs.Calls.{built, board-build, query-marks, counts, board-query, peeled, board-peel}
 use Rattle.model.specs.Demand.{AllOnes, IsCore, IndexThenQuery, BuildThenQuery, PeelIsCore}
@@ -20,7 +21,8 @@ use Rattle.model.proofs.Count.{test-true, bit-test, or-cases, count-le,
 use Rattle.model.proofs.Peel.{peel-laws}
 use Rattle.model.proofs.Cover.{peeled-core}
 use Rattle.model.proofs.Query.{core-ext, query-is-core}
-use Rattle.model.proofs.Refusal.{AcceptedTable, lowest-nil, lowest-skip, not-less, table-skip, build-none}
+use Rattle.model.proofs.Chain.{first-nil, first-skip, not-less}
+use Rattle.model.proofs.Refusal.{AcceptedTable, table-skip, build-none}
 
 -- 11 does not apply to limits from 1
 from-one : (α β : ℕ) → 1 ≤ α → 1 ≤ β → T (refused-11 α β) → ⊥
@@ -34,8 +36,8 @@ unfolding index-of
 length-index g = length-rows (nodes g) (λ (a x : ℕ). level g (suc a) x) (g .rides)
 
 -- the index that a build leaves
-built-index : (b : Board) (start : ℕ) → build-refusal b start ≡ 0 → board-build b start .board .index ≡ over (index-of (board-graph b)) (b .index)
-unfolding board-build built
+built-index : (b : Board) (start : ℕ) → build-refusal b start ≡ 0 → board-build b start .board .part Index ≡ over (index-of (board-graph b)) (b .part Index)
+unfolding board-build built words
 built-index b start e = rw (e, board-build)
 
 module _ (h : Head) (d : ℕ → ℕ → Bool) (more : List ℕ) (α β : ℕ) (marks : List ℕ) (few : h .operators ≤ 200) (few′ : h .rides ≤ 60) (a : 1 ≤ α) (c : 1 ≤ β) (long : mark-places h ≤ length marks) where
@@ -52,11 +54,11 @@ module _ (h : Head) (d : ℕ → ℕ → Bool) (more : List ℕ) (α β : ℕ) (
   query-none : query-refusal h index α β marks ≡ 0
   unfolding query-refusal
   query-none =
-      lowest-skip 1 (refused-1 h) _ (not-less 200 (h .operators) few) ∙
-      lowest-skip 2 (refused-2 h) _ (not-less 60 (h .rides) few′) ∙
-      lowest-skip 3 (refused-3 (index-places h) index || refused-3 (mark-places h) marks) _ (λ s. or-cases (refused-3 (index-places h) index) (refused-3 (mark-places h) marks) s (not-less (length index) (index-places h) index-long) (not-less (length marks) (mark-places h) long)) ∙
-      lowest-skip 11 (refused-11 α β) [] (from-one α β a c) ∙
-      lowest-nil
+      first-skip 1 (refused-1 h) _ (not-less 200 (h .operators) few) ∙
+      first-skip 2 (refused-2 h) _ (not-less 60 (h .rides) few′) ∙
+      first-skip 3 (refused-3 (index-places h) index || refused-3 (mark-places h) marks) _ (λ s. or-cases (refused-3 (index-places h) index) (refused-3 (mark-places h) marks) s (not-less (length index) (index-places h) index-long) (not-less (length marks) (mark-places h) long)) ∙
+      first-skip 11 (refused-11 α β) [] (from-one α β a c) ∙
+      first-nil
 
   -- a row of the index lies inside its first words
   word : (x : ℕ) → x < mark-places h → (leb α (h .rides) && leb β (getD index ((α - 1) * mark-places h + x) 0)) ≡ (leb α (h .rides) && leb β (getD (index-of g) ((α - 1) * mark-places h + x) 0))
@@ -98,24 +100,24 @@ pub build-then-query : BuildThenQuery
 build-then-query b start α β marks none a c long =
     let t = build-none b start none .0 in
     let g : Graph = board-graph b in
-    subst (λ (i : List ℕ). IsCore g α β (board-query (b .head) i α β marks)) (sym (built-index b start none)) (outcome (b .head) (g .cleared) (drop (length (index-of g)) (b .index)) α β marks (t .few-operators) (t .few-rides) a c long)
+    subst (λ (i : List ℕ). IsCore g α β (board-query (b .head) i α β marks)) (sym (built-index b start none)) (outcome (b .head) (g .cleared) (drop (length (index-of g)) (b .part Index)) α β marks (t .few-operators) (t .few-rides) a c long)
 
 -- ---- peel
 
 -- from all ones, on a board to which 1 to 5 do not apply, none of the peel's numbers applies
-pub peel-none : (b : Board) (marks : List ℕ) (α β : ℕ) → AcceptedTable b → 1 ≤ α → 1 ≤ β → mark-places (b .head) ≤ length marks → AllOnes (board-graph b) marks → peel-refusal (b .head) (b .operators) (b .rides) marks α β ≡ 0
+pub peel-none : (b : Board) (marks : List ℕ) (α β : ℕ) → AcceptedTable b → 1 ≤ α → 1 ≤ β → mark-places (b .head) ≤ length marks → AllOnes (board-graph b) marks → peel-refusal (b .head) (b .part Operators) (b .part Rides) marks α β ≡ 0
 unfolding peel-refusal refused-12
 peel-none b marks α β t a c long ones =
     let h : Head = b .head in
-    let o : Bool = refused-3 (pair-places h) (b .operators) in
-    let r : Bool = refused-3 (pair-places h) (b .rides) in
+    let o : Bool = refused-3 (pair-places h) (b .part Operators) in
+    let r : Bool = refused-3 (pair-places h) (b .part Rides) in
     let m : Bool = refused-3 (mark-places h) marks in
-    let short : T (o || r || m) → ⊥ = λ s. or-cases (o || r) m s (λ k. or-cases o r k (not-less (length (b .operators)) (pair-places h) (t .operators)) (not-less (length (b .rides)) (pair-places h) (t .rides))) (not-less (length marks) (mark-places h) long) in
+    let short : T (o || r || m) → ⊥ = λ s. or-cases (o || r) m s (λ k. or-cases o r k (not-less (length (b .part Operators)) (pair-places h) (t .long Operators)) (not-less (length (b .part Rides)) (pair-places h) (t .long Rides))) (not-less (length marks) (mark-places h) long) in
     let unknown : T (refused-12 h marks) → ⊥ = λ s. let w = some-witness (λ (x : ℕ). ltb 1 (getD marks x 0)) (mark-places h) s in omega (arith, ltb→lt 1 (getD marks (w .0) 0) (w .2), ones (w .0) (w .1)) in
     table-skip b (o || r || m) _ t short ∙
-    lowest-skip 11 (refused-11 α β) _ (from-one α β a c) ∙
-    lowest-skip 12 (refused-12 h marks) [] unknown ∙
-    lowest-nil
+    first-skip 11 (refused-11 α β) _ (from-one α β a c) ∙
+    first-skip 12 (refused-12 h marks) [] unknown ∙
+    first-nil
 
 pub peel-is-core : PeelIsCore
 unfolding board-peel peeled

@@ -7,7 +7,10 @@ pub mod Level
 pub mod Change
 pub mod Query
 pub mod Pairs
+pub mod Chain
+pub mod Parts
 pub mod Refusal
+pub mod Contents
 pub mod Taken
 pub mod EndToEnd
 pub mod Samples

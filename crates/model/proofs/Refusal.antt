@@ -1,48 +1,21 @@
--- Laws of the numbers 1 to 10: the lowest that applies, boards to which 1 to 6 do not apply, and valid messages. Assumes nothing.
-use mathlib.Core.Path.{_≡_, refl, ap₂, _∙_, subst}
-use mathlib.Core.Bool.{Bool, true, false, _||_}
+-- Laws of the numbers 1 to 10: boards to which 1 to 6 do not apply, and valid messages. Assumes nothing.
+use mathlib.Core.Path.{_≡_, ap₂, _∙_, subst}
+use mathlib.Core.Bool.{Bool, _||_}
 use mathlib.Core.List.{List, [], _∷_, _++_}
-use Prim.Native.Nat.{ℕ, suc, _≤_, _<_}
+use Prim.Native.Nat.{ℕ, _≤_, _<_}
 use native.Mathlib.Omega.{arith}
 use native.Mathlib.Decide.{decLt, decLe, ℕ-discrete}
-use lib.Dec.{T, ltb, leb, eqb, ltb→lt, lt→ltb, leb→le, le→leb, eqb→eq, eqb-refl, T-not, not-T}
+use lib.Dec.{T, leb, eqb, leb→le, le→leb, eqb→eq, eqb-refl, T-not, not-T}
 use lib.ListN.{length, getD}
 use Rattle.model.specs.declared.Head.{Head}
 use Rattle.model.specs.declared.Message.{Message}
-use Rattle.model.specs.Layout.{Board, pair-places, index-places, graph}
-use Rattle.model.specs.Refusal.{refused-1, refused-2, refused-3, refused-4, refused-5, refused-6, refused-7, refused-8, refused-9, refused-10, stamp-place, lowest-number, board-short, table-cases, build-refusal, message-refusal, list-refusal}
-use Rattle.model.specs.Message.{cleared-on}
+use Rattle.model.specs.Layout.{Part, Operators, Rides, Stamps, Board, pair-places, places, board-graph}
+use Rattle.model.specs.Contents.{stamp-place}
+use Rattle.model.specs.Refusal.{refused-1, refused-2, refused-3, refused-4, refused-5, refused-6, refused-7, refused-8, refused-9, refused-10, first-number, board-short, table-cases, build-refusal, message-refusal, list-refusal}
 use Rattle.model.proofs.Count.{by-test, or-left, or-right, or-cases, some-holds, some-witness}
+use Rattle.model.proofs.Chain.{first-here, first-skip, first-none, enough, not-less}
+use Rattle.model.proofs.Parts.{board-long, long-board}
 use Rattle.model.proofs.Pairs.{Pairs, listed-place, table-pairs, pairs-fit, pairs-accepted}
-
--- ---- the lowest number that applies
-
-pub lowest-nil : lowest-number [] ≡ 0
-unfolding lowest-number
-lowest-nil = refl
-
-pub lowest-here : (k : ℕ) (t : Bool) (cs : List (ℕ × Bool)) → T t → lowest-number ((k, t) ∷ cs) ≡ k
-unfolding lowest-number
-lowest-here k true cs h = refl
-lowest-here k false cs h = absurd h
-
-pub lowest-skip : (k : ℕ) (t : Bool) (cs : List (ℕ × Bool)) → (T t → ⊥) → lowest-number ((k, t) ∷ cs) ≡ lowest-number cs
-unfolding lowest-number
-lowest-skip k true cs n = absurd (n tt)
-lowest-skip k false cs n = refl
-
--- where none applies, the first does not, and none of the others
-pub lowest-none : (k : ℕ) (t : Bool) (cs : List (ℕ × Bool)) → lowest-number ((suc k, t) ∷ cs) ≡ 0 → (T t → ⊥) × (lowest-number cs ≡ 0)
-unfolding lowest-number
-lowest-none k true cs e = absurd (let z : ⊥ = omega arith in z)
-lowest-none k false cs e = (λ t. t, e)
-
--- a number is at least its limit exactly if the test for less fails
-pub enough : (a b : ℕ) → (T (ltb a b) → ⊥) → b ≤ a
-enough a b n = elim (decLe b a) [ yes h ↦ h | no h ↦ absurd (n (lt→ltb a b (omega arith))) ]
-
-pub not-less : (a b : ℕ) → b ≤ a → T (ltb a b) → ⊥
-not-less a b h t = omega (arith, ltb→lt a b t)
 
 -- ---- 1 to 6
 
@@ -50,93 +23,65 @@ not-less a b h t = omega (arith, ltb→lt a b t)
 pub record AcceptedTable (b : Board) : Type 0 where
   pub few-operators : b .head .operators ≤ 200
   pub few-rides : b .head .rides ≤ 60
-  pub operators : pair-places (b .head) ≤ length (b .operators)
-  pub rides : pair-places (b .head) ≤ length (b .rides)
-  pub stamps : pair-places (b .head) ≤ length (b .stamps)
-  pub index : index-places (b .head) ≤ length (b .index)
-  pub pairs : Pairs (graph (b .head) (b .operators) (b .rides)) (b .head .pairs) (b .operators) (b .rides)
+  pub long : (p : Part) → places (b .head) p ≤ length (b .part p)
+  pub pairs : Pairs (board-graph b) (b .head .pairs) (b .part Operators) (b .part Rides)
 
 -- a board to which 1 to 6 do not apply
 pub record Accepted (b : Board) : Type 0 where
   pub table : AcceptedTable b
-  pub stamped : (u v : ℕ) → T (cleared-on b u v) → 1 ≤ getD (b .stamps) (stamp-place (b .head) u v) 0
+  pub stamped : (u v : ℕ) → T (board-graph b .cleared u v) → 1 ≤ getD (b .part Stamps) (stamp-place (b .head) u v) 0
 
 module _ (b : Board) where
   abbrev h : Head
   h = b .head
 
-  -- 3, as four tests
-  pub board-long : (T (board-short b) → ⊥) → (pair-places h ≤ length (b .operators)) × (pair-places h ≤ length (b .rides)) × (pair-places h ≤ length (b .stamps)) × (index-places h ≤ length (b .index))
-  board-long n =
-      let o : Bool = refused-3 (pair-places h) (b .operators) in
-      let r : Bool = refused-3 (pair-places h) (b .rides) in
-      let s : Bool = refused-3 (pair-places h) (b .stamps) in
-      let i : Bool = refused-3 (index-places h) (b .index) in (
-        enough (length (b .operators)) (pair-places h) (λ t. n (or-left (o || r || s) i (or-left (o || r) s (or-left o r t)))),
-        enough (length (b .rides)) (pair-places h) (λ t. n (or-left (o || r || s) i (or-left (o || r) s (or-right o r t)))),
-        enough (length (b .stamps)) (pair-places h) (λ t. n (or-left (o || r || s) i (or-right (o || r) s t))),
-        enough (length (b .index)) (index-places h) (λ t. n (or-right (o || r || s) i t)),
-      )
-
-  pub long-board : pair-places h ≤ length (b .operators) → pair-places h ≤ length (b .rides) → pair-places h ≤ length (b .stamps) → index-places h ≤ length (b .index) → T (board-short b) → ⊥
-  long-board p q r s t =
-      or-cases (refused-3 (pair-places h) (b .operators) || refused-3 (pair-places h) (b .rides) || refused-3 (pair-places h) (b .stamps)) (refused-3 (index-places h) (b .index)) t
-      (λ k. or-cases (refused-3 (pair-places h) (b .operators) || refused-3 (pair-places h) (b .rides)) (refused-3 (pair-places h) (b .stamps)) k
-      (λ l. or-cases (refused-3 (pair-places h) (b .operators)) (refused-3 (pair-places h) (b .rides)) l (not-less (length (b .operators)) (pair-places h) p) (not-less (length (b .rides)) (pair-places h) q))
-      (not-less (length (b .stamps)) (pair-places h) r))
-      (not-less (length (b .index)) (index-places h) s)
-
   -- the numbers 1 to 5 of a board, and those behind them
   abbrev five : Bool → List (ℕ × Bool) → List (ℕ × Bool)
-  five short cs = table-cases h short (b .operators) (b .rides) ++ cs
+  five short cs = table-cases h short (b .part Operators) (b .part Rides) ++ cs
 
-  pub table-none : (short : Bool) (cs : List (ℕ × Bool)) → (T (board-short b) → T short) → lowest-number (five short cs) ≡ 0 → AcceptedTable b × (T short → ⊥) × (lowest-number cs ≡ 0)
+  pub table-none : (short : Bool) (cs : List (ℕ × Bool)) → (T (board-short b) → T short) → first-number (five short cs) ≡ 0 → AcceptedTable b × (T short → ⊥) × (first-number cs ≡ 0)
   table-none short cs s e =
-      let n1 = lowest-none 0 (refused-1 h) _ e in
-      let n2 = lowest-none 1 (refused-2 h) _ (n1 .1) in
-      let n3 = lowest-none 2 short _ (n2 .1) in
-      let n4 = lowest-none 3 (refused-4 h) _ (n3 .1) in
-      let n5 = lowest-none 4 (refused-5 h (b .operators) (b .rides)) _ (n4 .1) in
-      let long = board-long (λ t. n3 .0 (s t)) in (
+      let n1 = first-none 0 (refused-1 h) _ e in
+      let n2 = first-none 1 (refused-2 h) _ (n1 .1) in
+      let n3 = first-none 2 short _ (n2 .1) in
+      let n4 = first-none 3 (refused-4 h) _ (n3 .1) in
+      let n5 = first-none 4 (refused-5 h (b .part Operators) (b .part Rides)) _ (n4 .1) in (
         record {
           few-operators = enough 200 (h .operators) (n1 .0);
           few-rides = enough 60 (h .rides) (n2 .0);
-          operators = long .0;
-          rides = long .1;
-          stamps = long .2;
-          index = long .3;
-          pairs = table-pairs h (b .operators) (b .rides) (n5 .0);
+          long = board-long b (λ t. n3 .0 (s t));
+          pairs = table-pairs h (b .part Operators) (b .part Rides) (n5 .0);
         },
         n3 .0,
         n5 .1,
       )
 
   -- on such a board the numbers behind 5 decide
-  pub table-skip : (short : Bool) (cs : List (ℕ × Bool)) → AcceptedTable b → (T short → ⊥) → lowest-number (five short cs) ≡ lowest-number cs
+  pub table-skip : (short : Bool) (cs : List (ℕ × Bool)) → AcceptedTable b → (T short → ⊥) → first-number (five short cs) ≡ first-number cs
   table-skip short cs a n =
-      lowest-skip 1 (refused-1 h) _ (not-less 200 (h .operators) (a .few-operators)) ∙
-      lowest-skip 2 (refused-2 h) _ (not-less 60 (h .rides) (a .few-rides)) ∙
-      lowest-skip 3 short _ n ∙
-      lowest-skip 4 (refused-4 h) _ (not-less (pair-places h) (h .pairs) (pairs-fit h (b .operators) (b .rides) (cleared-on b) (a .pairs))) ∙
-      lowest-skip 5 (refused-5 h (b .operators) (b .rides)) _ (pairs-accepted h (b .operators) (b .rides) (cleared-on b) (a .pairs))
+      first-skip 1 (refused-1 h) _ (not-less 200 (h .operators) (a .few-operators)) ∙
+      first-skip 2 (refused-2 h) _ (not-less 60 (h .rides) (a .few-rides)) ∙
+      first-skip 3 short _ n ∙
+      first-skip 4 (refused-4 h) _ (not-less (pair-places h) (h .pairs) (pairs-fit h (b .part Operators) (b .part Rides) (board-graph b .cleared) (a .pairs))) ∙
+      first-skip 5 (refused-5 h (b .part Operators) (b .part Rides)) _ (pairs-accepted h (b .part Operators) (b .part Rides) (board-graph b .cleared) (a .pairs))
 
   -- a lent part that is too short gives 3, where the sizes are in bounds
-  pub short-three : (short : Bool) (cs : List (ℕ × Bool)) → h .operators ≤ 200 → h .rides ≤ 60 → T short → lowest-number (five short cs) ≡ 3
+  pub short-three : (short : Bool) (cs : List (ℕ × Bool)) → h .operators ≤ 200 → h .rides ≤ 60 → T short → first-number (five short cs) ≡ 3
   short-three short cs o r t =
-      lowest-skip 1 (refused-1 h) _ (not-less 200 (h .operators) o) ∙
-      lowest-skip 2 (refused-2 h) _ (not-less 60 (h .rides) r) ∙
-      lowest-here 3 short _ t
+      first-skip 1 (refused-1 h) _ (not-less 200 (h .operators) o) ∙
+      first-skip 2 (refused-2 h) _ (not-less 60 (h .rides) r) ∙
+      first-here 3 short _ t
 
   -- the test of 6 at place i
   abbrev unstamped : ℕ → Bool
-  unstamped i = eqb (getD (b .stamps) (stamp-place h (getD (b .operators) i 0) (getD (b .rides) i 0)) 0) 0
+  unstamped i = eqb (getD (b .part Stamps) (stamp-place h (getD (b .part Operators) i 0) (getD (b .part Rides) i 0)) 0) 0
 
-  stamped-none : (T (refused-6 b) → ⊥) → (u v : ℕ) → T (cleared-on b u v) → 1 ≤ getD (b .stamps) (stamp-place h u v) 0
+  stamped-none : (T (refused-6 b) → ⊥) → (u v : ℕ) → T (board-graph b .cleared u v) → 1 ≤ getD (b .part Stamps) (stamp-place h u v) 0
   unfolding refused-6
   stamped-none n u v t =
-      let w = listed-place (h .pairs) (b .operators) (b .rides) u v t in
-      let at : ℕ → ℕ → ℕ = λ x y. getD (b .stamps) (stamp-place h x y) 0 in
-      let here : ℕ = at (getD (b .operators) (w .0) 0) (getD (b .rides) (w .0) 0) in
+      let w = listed-place (h .pairs) (b .part Operators) (b .part Rides) u v t in
+      let at : ℕ → ℕ → ℕ = λ x y. getD (b .part Stamps) (stamp-place h x y) 0 in
+      let here : ℕ = at (getD (b .part Operators) (w .0) 0) (getD (b .part Rides) (w .0) 0) in
       let e : here ≡ at u v = ap₂ at (w .2) (w .3) in
       elim (decLe 1 (at u v)) [
         | yes l ↦ l
@@ -147,29 +92,29 @@ module _ (b : Board) where
   unfolding refused-6
   none-stamped a t =
       let w = some-witness unstamped (h .pairs) t in
-      let u : ℕ = getD (b .operators) (w .0) 0 in
-      let v : ℕ = getD (b .rides) (w .0) 0 in
-      omega (arith, a .stamped u v (a .table .pairs .holds (w .0) (w .1)), eqb→eq (getD (b .stamps) (stamp-place h u v) 0) 0 (w .2))
+      let u : ℕ = getD (b .part Operators) (w .0) 0 in
+      let v : ℕ = getD (b .part Rides) (w .0) 0 in
+      omega (arith, a .stamped u v (a .table .pairs .holds (w .0) (w .1)), eqb→eq (getD (b .part Stamps) (stamp-place h u v) 0) 0 (w .2))
 
-  pub accepted-none : (short : Bool) (cs : List (ℕ × Bool)) → (T (board-short b) → T short) → lowest-number (five short ((6, refused-6 b) ∷ cs)) ≡ 0 → Accepted b × (T short → ⊥) × (lowest-number cs ≡ 0)
+  pub accepted-none : (short : Bool) (cs : List (ℕ × Bool)) → (T (board-short b) → T short) → first-number (five short ((6, refused-6 b) ∷ cs)) ≡ 0 → Accepted b × (T short → ⊥) × (first-number cs ≡ 0)
   accepted-none short cs s e =
       let t = table-none short ((6, refused-6 b) ∷ cs) s e in
-      let n6 = lowest-none 5 (refused-6 b) cs (t .2) in
+      let n6 = first-none 5 (refused-6 b) cs (t .2) in
       (record { table = t .0; stamped = stamped-none (n6 .0) }, t .1, n6 .1)
 
   -- on such a board the numbers behind 6 decide
-  pub accepted-skip : (short : Bool) (cs : List (ℕ × Bool)) → Accepted b → (T short → ⊥) → lowest-number (five short ((6, refused-6 b) ∷ cs)) ≡ lowest-number cs
-  accepted-skip short cs a n = table-skip short ((6, refused-6 b) ∷ cs) (a .table) n ∙ lowest-skip 6 (refused-6 b) cs (none-stamped a)
+  pub accepted-skip : (short : Bool) (cs : List (ℕ × Bool)) → Accepted b → (T short → ⊥) → first-number (five short ((6, refused-6 b) ∷ cs)) ≡ first-number cs
+  accepted-skip short cs a n = table-skip short ((6, refused-6 b) ∷ cs) (a .table) n ∙ first-skip 6 (refused-6 b) cs (none-stamped a)
 
   pub table-long : AcceptedTable b → T (board-short b) → ⊥
-  table-long a = long-board (a .operators) (a .rides) (a .stamps) (a .index)
+  table-long a = long-board b (a .long)
 
   -- a build that is not refused
   pub build-none : (start : ℕ) → build-refusal b start ≡ 0 → AcceptedTable b × (1 ≤ start)
   unfolding build-refusal
   build-none start e =
       let t = table-none (board-short b) _ (λ s. s) e in
-      (t .0, elim (decLe 1 start) [ yes l ↦ l | no l ↦ absurd (lowest-none 8 (refused-9 start) [] (t .2) .0 (subst (λ (x : ℕ). T (eqb x 0)) (let z : 0 ≡ start = omega arith in z) (eqb-refl 0))) ])
+      (t .0, elim (decLe 1 start) [ yes l ↦ l | no l ↦ absurd (first-none 8 (refused-9 start) [] (t .2) .0 (subst (λ (x : ℕ). T (eqb x 0)) (let z : 0 ≡ start = omega arith in z) (eqb-refl 0))) ])
 
 -- ---- 7 to 10
 
@@ -221,24 +166,24 @@ module _ (b : Board) (m : Message) where
   unfolding message-refusal
   taken-none e =
       let a = accepted-none b (board-short b) four (λ t. t) e in
-      let n7 = lowest-none 6 (refused-7 m) _ (a .2) in
-      let n8 = lowest-none 7 (refused-8 (b .head) m) _ (n7 .1) in
-      let n9 = lowest-none 8 (refused-9 (m .stamp)) _ (n8 .1) in
-      let n10 = lowest-none 9 (refused-10 b m) [] (n9 .1) in
+      let n7 = first-none 6 (refused-7 m) _ (a .2) in
+      let n8 = first-none 7 (refused-8 (b .head) m) _ (n7 .1) in
+      let n9 = first-none 8 (refused-9 (m .stamp)) _ (n8 .1) in
+      let n10 = first-none 9 (refused-10 b m) [] (n9 .1) in
       (a .0, tests-valid (b .head) m (n7 .0) (n8 .0) (n9 .0), n10 .0)
 
   -- on an accepted board 7 to 10 decide
-  pub message-accepted : Accepted b → message-refusal b m ≡ lowest-number four
+  pub message-accepted : Accepted b → message-refusal b m ≡ first-number four
   unfolding message-refusal
   message-accepted a = accepted-skip b (board-short b) four a (table-long b (a .table))
 
   -- a valid message on an accepted board is refused exactly if 10 applies
-  pub message-valid : Accepted b → Valid (b .head) m → message-refusal b m ≡ lowest-number ((10, refused-10 b m) ∷ [])
+  pub message-valid : Accepted b → Valid (b .head) m → message-refusal b m ≡ first-number ((10, refused-10 b m) ∷ [])
   message-valid a v =
       message-accepted a ∙
-      lowest-skip 7 (refused-7 m) _ (valid-kind (b .head) m (v .kind-low) (v .kind-high)) ∙
-      lowest-skip 8 (refused-8 (b .head) m) _ (valid-pair (b .head) m (v .operator) (v .ride)) ∙
-      lowest-skip 9 (refused-9 (m .stamp)) _ (valid-stamp (b .head) m (v .stamp))
+      first-skip 7 (refused-7 m) _ (valid-kind (b .head) m (v .kind-low) (v .kind-high)) ∙
+      first-skip 8 (refused-8 (b .head) m) _ (valid-pair (b .head) m (v .operator) (v .ride)) ∙
+      first-skip 9 (refused-9 (m .stamp)) _ (valid-stamp (b .head) m (v .stamp))
 
 module _ (b : Board) (messages : ℕ) (answers : List ℕ) where
   pub list-none : list-refusal b messages answers ≡ 0 → Accepted b × (messages ≤ length answers)
@@ -249,7 +194,7 @@ module _ (b : Board) (messages : ℕ) (answers : List ℕ) where
       (a .0, enough (length answers) messages (λ t. a .1 (or-right (board-short b) s t)))
 
   pub list-accepted : Accepted b → messages ≤ length answers → list-refusal b messages answers ≡ 0
-  unfolding list-refusal lowest-number
+  unfolding list-refusal first-number
   list-accepted a l =
       accepted-skip b (board-short b || refused-3 messages answers) [] a
       (λ t. or-cases (board-short b) (refused-3 messages answers) t (table-long b (a .table)) (not-less (length answers) messages l))

@@ -7,6 +7,7 @@ use lib.Dec.{T, eqb, eqb→eq}
 use Rattle.model.specs.Count
 use Rattle.model.specs.Graph
 use Rattle.model.specs.Layout
+use Rattle.model.specs.Contents
 use Rattle.model.specs.Refusal
 use Rattle.model.specs.Calls
 use Rattle.model.specs.Message
@@ -43,7 +44,7 @@ all-agree (r ∷ rs) t =
     (same-equal (r .0) (r .1) (and-left (same (r .0) (r .1)) (all-same rs) t), all-agree rs (and-right (same (r .0) (r .1)) (all-same rs) t))
 
 tested : T (all-same samples)
-unfolding samples Count.count Count.some Count.lowest Count.values Count.rows Graph.degree Graph.limits Graph.short Graph.settled Graph.removals Graph.without Graph.peel Graph.cover Graph.level-to Graph.level Graph.row Graph.index-of Layout.listed Layout.differing Refusal.misplaced Refusal.refused-5 Refusal.refused-12 Refusal.lowest-number Refusal.peel-refusal Calls.peeled Calls.board-peel Count.passing Refusal.build-refusal Refusal.refused-6 Refusal.refused-10 Refusal.message-refusal Calls.start-stamps Calls.built Calls.board-build Message.pair-numbers Message.board-of Message.board-after Message.board-message
+unfolding samples Count.count Count.some Count.lowest Count.values Count.rows Graph.degree Graph.limits Graph.short Graph.settled Graph.removals Graph.without Graph.peel Graph.cover Graph.level-to Graph.level Graph.row Graph.index-of Layout.listed Layout.differing Refusal.misplaced Refusal.refused-5 Refusal.refused-12 Refusal.first-number Refusal.board-short Refusal.peel-refusal Calls.peeled Calls.board-peel Count.passing Refusal.build-refusal Refusal.refused-6 Refusal.refused-10 Refusal.message-refusal Calls.built Calls.board-build Contents.pair-numbers Contents.words Message.board-after Message.board-message
 tested = tt
 
 pub samples-hold : Agree samples

@@ -7,9 +7,10 @@ use lib.ListN.{length, getD}
 use Rattle.model.specs.declared.Head.{Head}
 use Rattle.model.specs.declared.Counts.{Counts}
 use Rattle.model.specs.declared.Peeled.{Peeled}
-use Rattle.model.specs.Count.{bit, count, values, rows}
-use Rattle.model.specs.Graph.{Graph, limits, marked, settled, removals, peel, index-of}
-use Rattle.model.specs.Layout.{Board, mark-places, over, graph, board-graph, zero-tail}
+use Rattle.model.specs.Count.{bit, count, values}
+use Rattle.model.specs.Graph.{Graph, limits, marked, settled, removals, peel}
+use Rattle.model.specs.Layout.{Board, mark-places, over, onto, graph, board-graph}
+use Rattle.model.specs.Contents.{Pair, Contents, board-of}
 use Rattle.model.specs.Refusal.{build-refusal, query-refusal, peel-refusal}
 
 -- what a build gives: the number, and the board at exit
@@ -17,20 +18,14 @@ pub record BuildOutcome : Type 0 where
   pub code : ℕ
   pub board : Board
 
--- the stamps that a build sets: the starting stamp for listed pairs, 0 for the others
-unfoldable pub start-stamps : Graph → ℕ → List ℕ
-start-stamps g start = rows (g .operators) (g .rides) (λ u v. elim (g .cleared u v) [ true ↦ start | false ↦ 0 ])
+-- what a board says after a build: each listed pair a grant of the starting stamp, the others nothing
+abbrev pub start-contents : Graph → ℕ → Contents
+start-contents g start (Pair u v) =
+    record { stamp = elim (g .cleared u v) [ true ↦ start | false ↦ 0 ]; gives = g .cleared u v }
 
 -- Build, where no number applies
 unfoldable pub built : Board → ℕ → Board
-built b start =
-    record {
-      head = b .head;
-      operators = over (zero-tail (b .head) (b .operators)) (b .operators);
-      rides = over (zero-tail (b .head) (b .rides)) (b .rides);
-      stamps = over (start-stamps (board-graph b) start) (b .stamps);
-      index = over (index-of (board-graph b)) (b .index);
-    }
+built b start = onto (board-of (b .head) (start-contents (board-graph b) start)) (b .part)
 
 -- Build
 unfoldable pub board-build : Board → ℕ → BuildOutcome

@@ -1,7 +1,7 @@
 -- What documents 000 and 01 say of the definitions, as statements for every graph, limit and starting set: proofs/ proves each record.
 use mathlib.Core.Path.{_≡_}
 use mathlib.Core.Logic.{_↔_, _≢_}
-use mathlib.Core.Bool.{Bool, true, false, not}
+use mathlib.Core.Bool.{Bool, not}
 use mathlib.Core.List.{List, [], _∷_, _++_}
 use Prim.Native.Nat.{ℕ, _+_, _-_, _*_, _≤_, _<_, max}
 use lib.Dec.{T}
@@ -9,7 +9,7 @@ use lib.ListN.{length, getD, set, drop}
 use Rattle.model.specs.declared.Head.{Head}
 use Rattle.model.specs.Count.{count, some}
 use Rattle.model.specs.Graph.{Graph, nodes, degree, everybody, Inside, Largest, limits, Core, marked, short, settled, removals, peel, cover, level, index-of}
-use Rattle.model.specs.Layout.{Board, mark-places, sized, graph, board-graph}
+use Rattle.model.specs.Layout.{Index, Board, mark-places, sized, graph, board-graph}
 use Rattle.model.specs.Refusal.{build-refusal, peel-refusal}
 use Rattle.model.specs.Calls.{QueryOutcome, PeelOutcome, query-marks, board-build, board-query, board-peel}
 
@@ -40,10 +40,12 @@ pub record PeelLaws : Type 0 where
   -- as many steps as there are marked nodes are enough to settle
   pub settles : (g : Graph) (limit : ℕ → ℕ) (f : ℕ) (s : List ℕ) → members g s ≤ f → T (settled g limit (peel g limit f s))
   -- settled marks are the largest set inside the marks that came in
-  pub largest : (g : Graph) (limit : ℕ → ℕ) (f : ℕ) (s : List ℕ) → T (settled g limit (peel g limit f s)) → Largest g limit (marked s) (marked (peel g limit f s))
+  pub largest : (g : Graph) (limit : ℕ → ℕ) (f : ℕ) (s : List ℕ) → T (settled g limit (peel g limit f s)) →
+      Largest g limit (marked s) (marked (peel g limit f s))
   pub only : (g : Graph) (limit : ℕ → ℕ) (start s t : ℕ → Bool) → Largest g limit start s → Largest g limit start t → (x : ℕ) → x < nodes g → s x ≡ t x
   -- unsettled exactly if all allowed steps were taken and somebody still falls short
-  pub unsettled : (g : Graph) (limit : ℕ → ℕ) (f : ℕ) (s : List ℕ) → T (not (settled g limit (peel g limit f s))) ↔ ((length (removals g limit f s) ≡ f) × T (some (nodes g) (short g limit (peel g limit f s))))
+  pub unsettled : (g : Graph) (limit : ℕ → ℕ) (f : ℕ) (s : List ℕ) → T (not (settled g limit (peel g limit f s))) ↔
+      ((length (removals g limit f s) ≡ f) × T (some (nodes g) (short g limit (peel g limit f s))))
   -- each step clears one mark; from all ones steps taken = operators + rides − members, whatever lies behind the nodes' marks
   pub steps : (g : Graph) (limit : ℕ → ℕ) (f : ℕ) (s : List ℕ) → members g (peel g limit f s) + length (removals g limit f s) ≡ members g s
   pub steps-from-all : (g : Graph) (limit : ℕ → ℕ) (f : ℕ) (s : List ℕ) → AllOnes g s → length (removals g limit f s) ≡ nodes g - members g (peel g limit f s)
@@ -54,7 +56,8 @@ pub record PeelLaws : Type 0 where
 pub record CoverLaws : Type 0 where
   pub core : (g : Graph) (α β : ℕ) → Core g α β (marked (cover g α β))
   -- a settled peel from all ones leaves it, whatever lies behind the nodes' marks
-  pub peeled : (g : Graph) (α β f : ℕ) (s : List ℕ) → AllOnes g s → T (settled g (limits g α β) (peel g (limits g α β) f s)) → Core g α β (marked (peel g (limits g α β) f s))
+  pub peeled : (g : Graph) (α β f : ℕ) (s : List ℕ) → AllOnes g s → T (settled g (limits g α β) (peel g (limits g α β) f s)) →
+      Core g α β (marked (peel g (limits g α β) f s))
   pub nest : (g : Graph) (α α′ β β′ : ℕ) → α ≤ α′ → β ≤ β′ → Inside g (marked (cover g α′ β′)) (marked (cover g α β))
 
 -- the graph g with other clearances
@@ -66,7 +69,8 @@ pub record LevelLaws : Type 0 where
   -- x is in cover (α, β) exactly if β is at most its level in row α
   pub holds : (g : Graph) (α β x : ℕ) → 1 ≤ α → 1 ≤ β → x < nodes g → T (marked (cover g α β) x) ↔ (β ≤ level g α x)
   -- levels depend on the clearances below the sizes and on nothing else
-  pub same : (g : Graph) (c : ℕ → ℕ → Bool) → ((u v : ℕ) → u < g .operators → v < g .rides → g .cleared u v ≡ c u v) → (α x : ℕ) → x < nodes g → level (changed g c) α x ≡ level g α x
+  pub same : (g : Graph) (c : ℕ → ℕ → Bool) → ((u v : ℕ) → u < g .operators → v < g .rides → g .cleared u v ≡ c u v) →
+      (α x : ℕ) → x < nodes g → level (changed g c) α x ≡ level g α x
   -- a row above the largest degree of an operator is all 0
   pub above : (g : Graph) (α : ℕ) → ((u : ℕ) → u < g .operators → degree g everybody u < α) → (x : ℕ) → x < nodes g → level g α x ≡ 0
   pub bound : (g : Graph) (α x : ℕ) → level g α x ≤ g .operators
@@ -107,7 +111,7 @@ BuildThenQuery =
     1 ≤ α →
     1 ≤ β →
     mark-places (b .head) ≤ length marks →
-    IsCore (board-graph b) α β (board-query (b .head) (board-build b start .board .index) α β marks)
+    IsCore (board-graph b) α β (board-query (b .head) (board-build b start .board .part Index) α β marks)
 
 -- what a peel from all ones gives, with so many steps allowed: settled, its marks are the (α, β)-core; one step was taken for each node
 -- that is out; and as many steps as there are nodes are enough to settle
@@ -125,22 +129,20 @@ PeelIsCore =
     AllOnes (graph h operators rides) marks →
     IsPeeledCore (graph h operators rides) α β allowed (board-peel h operators rides marks α β allowed)
 
--- the clearances c are those of g with the pair (u, v) added
-pub record Added (g : Graph) (c : ℕ → ℕ → Bool) (u v : ℕ) : Type 0 where
+-- below the sizes the clearances c have all of g's, and further ones, if any, of the operator u alone
+pub record Gained (g : Graph) (c : ℕ → ℕ → Bool) (u : ℕ) : Type 0 where
   pub operator : u < g .operators
-  pub ride : v < g .rides
-  pub absent : g .cleared u v ≡ false
-  pub present : c u v ≡ true
-  pub others : (a b : ℕ) → a < g .operators → b < g .rides → (a ≡ u → b ≡ v → ⊥) → g .cleared a b ≡ c a b
+  pub kept : (a v : ℕ) → a < g .operators → v < g .rides → T (g .cleared a v) → T (c a v)
+  pub alone : (a v : ℕ) → a < g .operators → v < g .rides → a ≢ u → T (c a v) → T (g .cleared a v)
 
--- how levels move from g to g′, which has one pair of the operator u more; from g′ to g, where it is removed, they move back
+-- how levels move from g to g′, which has further pairs of the operator u; from g′ to g, where they are removed, they move back
 pub record OneMove (g g′ : Graph) (u : ℕ) : Type 0 where
   -- rows above the larger of the operator's two degrees stay
   pub stays : (α x : ℕ) → max (degree g everybody u) (degree g′ everybody u) < α → x < nodes g → level g′ α x ≡ level g α x
-  -- in every other row each level but that operator's own moves by at most 1, up where the pair is added
+  -- in every other row each level but that operator's own moves by at most 1, up where pairs are added
   pub up : (α x : ℕ) → 1 ≤ α → x < nodes g → x ≢ u → level g α x ≤ level g′ α x
   pub by-one : (α x : ℕ) → 1 ≤ α → x < nodes g → x ≢ u → level g′ α x ≤ level g α x + 1
 
--- Demand 3, its last sentence, of any two sets of clearances that differ in one pair
-abbrev pub OnePair : Type 0
-OnePair = (g : Graph) (c : ℕ → ℕ → Bool) (u v : ℕ) → Added g c u v → OneMove g (changed g c) u
+-- Demand 3, its last sentence, of any set of pairs of one operator, all added or all removed; one pair is a case, and so is none
+abbrev pub OneOperator : Type 0
+OneOperator = (g : Graph) (c : ℕ → ℕ → Bool) (u : ℕ) → Gained g c u → OneMove g (changed g c) u

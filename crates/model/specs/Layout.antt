@@ -1,9 +1,9 @@
--- Document 01, Layout: the lengths of the lent parts, and the clearance graph of a pair table.
-use mathlib.Core.Bool.{Bool, _&&_, not}
-use mathlib.Core.List.{List, _++_}
-use Prim.Native.Nat.{ℕ, _+_, _-_, _*_}
+-- Document 01, Layout: the parts of a board and their lengths, what is said of every part, and the clearance graph of a pair table.
+use mathlib.Core.Bool.{Bool, false, _&&_, _||_, not}
+use mathlib.Core.List.{List, [], _∷_, _++_}
+use Prim.Native.Nat.{ℕ, _+_, _*_}
 use lib.Dec.{eqb}
-use lib.ListN.{length, getD, take, drop, replicate}
+use lib.ListN.{length, getD, drop}
 use Rattle.model.specs.declared.Head.{Head}
 use Rattle.model.specs.Count.{count, some}
 use Rattle.model.specs.Graph.{Graph}
@@ -20,22 +20,56 @@ mark-places h = h .operators + h .rides
 abbrev pub index-places : Head → ℕ
 index-places h = h .rides * (h .operators + h .rides)
 
--- a board as it is lent: head, pair arrays, stamps and index
+-- the parts of a board, in the order in which they are lent: the two pair arrays, stamps, index
+pub data Part : Type 0 where
+  Operators : Part
+  Rides : Part
+  Stamps : Part
+  Index : Part
+
+-- all of them
+abbrev pub all-parts : List Part
+all-parts = Operators ∷ Rides ∷ Stamps ∷ Index ∷ []
+
+-- the places that each has
+abbrev pub places : Head → Part → ℕ
+places h Operators = pair-places h
+places h Rides = pair-places h
+places h Stamps = pair-places h
+places h Index = index-places h
+
+-- the words of each part
+abbrev pub Parts : Type 0
+Parts = Part → List ℕ
+
+-- a board: head and parts
 pub record Board : Type 0 where
   pub head : Head
-  pub operators : List ℕ
-  pub rides : List ℕ
-  pub stamps : List ℕ
-  pub index : List ℕ
+  pub part : Parts
+
+-- the parts as a call names them
+abbrev pub parts : List ℕ → List ℕ → List ℕ → List ℕ → Parts
+parts operators rides stamps index Operators = operators
+parts operators rides stamps index Rides = rides
+parts operators rides stamps index Stamps = stamps
+parts operators rides stamps index Index = index
 
 -- the board of these lent parts
 abbrev pub lent : Head → List ℕ → List ℕ → List ℕ → List ℕ → Board
-lent h operators rides stamps index =
-    record { head = h; operators = operators; rides = rides; stamps = stamps; index = index }
+lent h operators rides stamps index = record { head = h; part = parts operators rides stamps index }
+
+-- one of these parts passes the test
+abbrev pub some-part : (Part → Bool) → List Part → Bool
+some-part test [] = false
+some-part test (p ∷ ps) = test p || some-part test ps
 
 -- what a call leaves in a lent part: the new words, and past their end the old ones
 abbrev pub over : List ℕ → List ℕ → List ℕ
 over new old = new ++ drop (length new) old
+
+-- the same of every part of a board
+abbrev pub onto : Board → Parts → Board
+onto b old = record { head = b .head; part = λ p. over (b .part p) (old p) }
 
 -- the pair (u, v) stands at place i of the pair arrays
 abbrev pub pair-at : List ℕ → List ℕ → ℕ → ℕ → ℕ → Bool
@@ -55,11 +89,7 @@ graph h operators rides = sized h (listed (h .pairs) operators rides)
 
 -- the clearance graph of a board
 abbrev pub board-graph : Board → Graph
-board-graph b = graph (b .head) (b .operators) (b .rides)
-
--- a pair array with its tail zeroed: the listed places as they are, zeros up to its end
-abbrev pub zero-tail : Head → List ℕ → List ℕ
-zero-tail h array = take (h .pairs) array ++ replicate (pair-places h - h .pairs) 0
+board-graph b = graph (b .head) (b .part Operators) (b .part Rides)
 
 -- the number of words that differ, of the first k
 unfoldable pub differing : ℕ → List ℕ → List ℕ → ℕ

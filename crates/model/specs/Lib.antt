@@ -1,6 +1,7 @@
 pub mod Count
 pub mod Graph
 pub mod Layout
+pub mod Contents
 pub mod Refusal
 pub mod Calls
 pub mod Message

@@ -1,13 +1,14 @@
 -- Document 01, What the controller is told: one test for each of the numbers 1 to 12, and the numbers that each call checks.
 use mathlib.Core.Bool.{Bool, true, false, _&&_, _||_, not}
 use mathlib.Core.List.{List, [], _∷_, _++_}
-use Prim.Native.Nat.{ℕ, zero, suc, _+_, _*_}
+use Prim.Native.Nat.{ℕ, zero, suc, _+_}
 use lib.Dec.{ltb, leb, eqb}
 use lib.ListN.{length, getD}
 use Rattle.model.specs.declared.Head.{Head}
 use Rattle.model.specs.declared.Message.{Message}
 use Rattle.model.specs.Count.{some}
-use Rattle.model.specs.Layout.{Board, pair-places, mark-places, index-places, listed}
+use Rattle.model.specs.Layout.{Operators, Rides, Stamps, Board, pair-places, mark-places, index-places, places, all-parts, some-part}
+use Rattle.model.specs.Contents.{later, slot, entry, contents, stamp-place}
 
 -- 1: operators over 200
 abbrev pub refused-1 : Head → Bool
@@ -47,14 +48,11 @@ misplaced h operators rides i = out-of-range h (getD operators i 0) (getD rides 
 unfoldable pub refused-5 : Head → List ℕ → List ℕ → Bool
 refused-5 h operators rides = some (h .pairs) (misplaced h operators rides)
 
--- the place of a pair's stamp
-abbrev pub stamp-place : Head → ℕ → ℕ → ℕ
-stamp-place h u v = u * h .rides + v
-
 -- 6: message: a listed pair has stamp 0
 unfoldable pub refused-6 : Board → Bool
 refused-6 b =
-    some (b .head .pairs) (λ i. eqb (getD (b .stamps) (stamp-place (b .head) (getD (b .operators) i 0) (getD (b .rides) i 0)) 0) 0)
+    some (b .head .pairs)
+    (λ i. eqb (getD (b .part Stamps) (stamp-place (b .head) (getD (b .part Operators) i 0) (getD (b .part Rides) i 0)) 0) 0)
 
 -- 7: message: kind not 1 or 2
 abbrev pub refused-7 : Message → Bool
@@ -68,24 +66,9 @@ refused-8 h m = out-of-range h (m .operator) (m .ride)
 abbrev pub refused-9 : ℕ → Bool
 refused-9 stamp = eqb stamp 0
 
--- a message is later than another for its pair: a larger stamp, or at equal stamps a withdrawal (2) against a grant (1)
-abbrev pub later : ℕ → ℕ → ℕ → ℕ → Bool
-later kind stamp kind′ stamp′ = ltb stamp′ stamp || (eqb stamp stamp′ && (eqb kind 2 && eqb kind′ 1))
-
--- the kind of a pair's last message: a grant where it is listed, else a withdrawal (or none, with stamp 0)
-abbrev pub last-kind : Bool → ℕ
-last-kind true = 1
-last-kind false = 2
-
 -- 10: message not later than the pair's last
 unfoldable pub refused-10 : Board → Message → Bool
-refused-10 b m =
-    not
-    (later
-    (m .kind)
-    (m .stamp)
-    (last-kind (listed (b .head .pairs) (b .operators) (b .rides) (m .operator) (m .ride)))
-    (getD (b .stamps) (stamp-place (b .head) (m .operator) (m .ride)) 0))
+refused-10 b m = not (later (entry m) (contents b (slot m)))
 
 -- 11: α or β is 0
 abbrev pub refused-11 : ℕ → ℕ → Bool
@@ -95,18 +78,14 @@ refused-11 α β = eqb α 0 || eqb β 0
 unfoldable pub refused-12 : Head → List ℕ → Bool
 refused-12 h marks = some (mark-places h) (λ x. ltb 1 (getD marks x 0))
 
--- the lowest number that applies, of numbers in ascending order; 0 if none does
-unfoldable pub lowest-number : List (ℕ × Bool) → ℕ
-lowest-number [] = 0
-lowest-number (c ∷ cs) = elim (c .1) [ true ↦ c .0 | false ↦ lowest-number cs ]
+-- the first number that applies, in the order of the list; 0 if none does
+unfoldable pub first-number : List (ℕ × Bool) → ℕ
+first-number [] = 0
+first-number (c ∷ cs) = elim (c .1) [ true ↦ c .0 | false ↦ first-number cs ]
 
 -- 3, of the parts of a board
-abbrev pub board-short : Board → Bool
-board-short b =
-    refused-3 (pair-places (b .head)) (b .operators) ||
-    refused-3 (pair-places (b .head)) (b .rides) ||
-    refused-3 (pair-places (b .head)) (b .stamps) ||
-    refused-3 (index-places (b .head)) (b .index)
+unfoldable pub board-short : Board → Bool
+board-short b = some-part (λ p. refused-3 (places (b .head) p) (b .part p)) all-parts
 
 -- 1 to 5, of a pair table; too-short is the call's own 3
 abbrev pub table-cases : Head → Bool → List ℕ → List ℕ → List (ℕ × Bool)
@@ -116,30 +95,35 @@ table-cases h too-short operators rides =
 -- build: 1 to 5 and 9
 unfoldable pub build-refusal : Board → ℕ → ℕ
 build-refusal b start =
-    lowest-number (table-cases (b .head) (board-short b) (b .operators) (b .rides) ++ (9, refused-9 start) ∷ [])
+    first-number (table-cases (b .head) (board-short b) (b .part Operators) (b .part Rides) ++ (9, refused-9 start) ∷ [])
 
 -- query: 1 to 3 and 11
 unfoldable pub query-refusal : Head → List ℕ → ℕ → ℕ → List ℕ → ℕ
 query-refusal h index α β marks =
-    lowest-number
+    first-number
     ((1, refused-1 h) ∷ (2, refused-2 h) ∷ (3, refused-3 (index-places h) index || refused-3 (mark-places h) marks) ∷ (11, refused-11 α β) ∷ [])
+
+-- 1 to 6, of a board; too-short is the call's own 3
+abbrev pub board-cases : Board → Bool → List (ℕ × Bool)
+board-cases b too-short =
+    table-cases (b .head) too-short (b .part Operators) (b .part Rides) ++ (6, refused-6 b) ∷ []
+
+-- 7 to 10, of a message
+abbrev pub message-cases : Board → Message → List (ℕ × Bool)
+message-cases b m =
+    (7, refused-7 m) ∷ (8, refused-8 (b .head) m) ∷ (9, refused-9 (m .stamp)) ∷ (10, refused-10 b m) ∷ []
 
 -- message: 1 to 10
 unfoldable pub message-refusal : Board → Message → ℕ
-message-refusal b m =
-    lowest-number
-    (table-cases (b .head) (board-short b) (b .operators) (b .rides) ++
-    (6, refused-6 b) ∷ (7, refused-7 m) ∷ (8, refused-8 (b .head) m) ∷ (9, refused-9 (m .stamp)) ∷ (10, refused-10 b m) ∷ [])
+message-refusal b m = first-number (board-cases b (board-short b) ++ message-cases b m)
 
 -- message list: 1 to 6; an answer list shorter than the message list is 3
 unfoldable pub list-refusal : Board → ℕ → List ℕ → ℕ
-list-refusal b messages answers =
-    lowest-number
-    (table-cases (b .head) (board-short b || refused-3 messages answers) (b .operators) (b .rides) ++ (6, refused-6 b) ∷ [])
+list-refusal b messages answers = first-number (board-cases b (board-short b || refused-3 messages answers))
 
 -- peel: 1 to 5, 11, 12
 unfoldable pub peel-refusal : Head → List ℕ → List ℕ → List ℕ → ℕ → ℕ → ℕ
 peel-refusal h operators rides marks α β =
-    lowest-number
+    first-number
     (table-cases h (refused-3 (pair-places h) operators || refused-3 (pair-places h) rides || refused-3 (mark-places h) marks) operators rides ++
     (11, refused-11 α β) ∷ (12, refused-12 h marks) ∷ [])

@@ -5,7 +5,7 @@ use mathlib.Core.List.{List, [], _∷_}
 use Prim.Native.Nat.{ℕ, _-_, _*_}
 use lib.ListN.{getD, take, drop, replicate}
 use Rattle.model.specs.Graph.{Graph, limits, removals, cover, row}
-use Rattle.model.specs.Layout.{Board, lent, board-graph}
+use Rattle.model.specs.Layout.{Operators, Rides, Index, Board, lent, board-graph}
 use Rattle.model.specs.Calls.{PeelOutcome, board-build, board-peel}
 use Rattle.model.specs.Message.{MessageOutcome, board-message}
 
@@ -25,7 +25,7 @@ board = board-graph table
 
 -- its peel (2,2), from marks and with a number of allowed steps
 abbrev peel-2-2 : List ℕ → ℕ → PeelOutcome
-peel-2-2 marks allowed = board-peel (table .head) (table .operators) (table .rides) marks 2 2 allowed
+peel-2-2 marks allowed = board-peel (table .head) (table .part Operators) (table .part Rides) marks 2 2 allowed
 
 -- a peel's number, settled and steps
 abbrev answer : PeelOutcome → List ℕ
@@ -46,7 +46,7 @@ grant-3-1 = sent (built-at 1) 1 3 1 2
 
 -- row α of a board's index
 abbrev index-row : Board → ℕ → List ℕ
-index-row b α = take 7 (drop ((α - 1) * 7) (b .index))
+index-row b α = take 7 (drop ((α - 1) * 7) (b .part Index))
 
 -- how far operator 3 moves up by the grant in a row
 abbrev move-3 : ℕ → ℕ
@@ -67,8 +67,11 @@ samples =
     (index-row (grant-3-1 .board) 1, 4 ∷ 4 ∷ 4 ∷ 4 ∷ 2 ∷ 4 ∷ 2 ∷ []) ∷
     (index-row (grant-3-1 .board) 2, 2 ∷ 2 ∷ 2 ∷ 2 ∷ 2 ∷ 2 ∷ 2 ∷ []) ∷
     (grant-3-1 .answer .code ∷ grant-3-1 .answer .differ ∷ grant-3-1 .board .head .pairs ∷ [], 0 ∷ 8 ∷ 8 ∷ []) ∷
-    (move-3 1 ∷ move-3 2 ∷ [], 2 ∷ 2 ∷ []) ∷
-    (sent (built-at 5) 1 0 0 5 .answer .code ∷ sent (built-at 5) 2 0 0 5 .answer .code ∷ sent (sent (built-at 5) 2 0 0 5 .board) 1 0 0 6 .answer .code ∷ [], 10 ∷ 0 ∷ 0 ∷ []) ∷
+    (move-3 1 ∷ move-3 2 ∷ [], 2 ∷ 2 ∷ []) ∷ (
+      sent (built-at 5) 1 0 0 5 .answer .code ∷ sent (built-at 5) 2 0 0 5 .answer .code ∷
+          sent (sent (built-at 5) 2 0 0 5 .board) 1 0 0 6 .answer .code ∷ [],
+      10 ∷ 0 ∷ 0 ∷ [],
+    ) ∷
     []
 
 -- in each row of a table the two lists are equal

@@ -5,16 +5,16 @@ use mathlib.Core.List.{List, map, _++_}
 use Prim.Native.Nat.{ℕ, _+_, _-_, _*_, _/_, _%_, _≤_, _<_}
 use native.Mathlib.Omega.{arith}
 use native.Mathlib.Decide.{decLt, ℕ-discrete}
-use lib.Dec.{T, ltb}
+use lib.Dec.{T, ltb, eqb, eqb→eq, eqb-refl}
 use lib.ListN.{length, getD, take, drop, replicate, length-map}
 use Rattle.model.specs.declared.Head.{Head}
 use Rattle.model.specs.Graph.{Graph}
 use Rattle.model.specs.Layout.{pair-places, over, pair-at, listed}
-use Rattle.model.specs.Message.{with-pair, pair-numbers}
+use Rattle.model.specs.Contents.{pair-numbers}
+use Rattle.model.proofs.Count.{test-true, test-false, and-left, and-right, and-both}
 use Rattle.model.proofs.Pairs.{Pairs, pairs-fit, pairs-count, pairs-operators, pairs-rides}
-use Rattle.model.proofs.Taken.{with-pair-same, with-pair-other, by-pair}
-use Rattle.tables.specs.Table.{AcceptedPairs}
-use Rattle.pairs.specs.Change.{graph-with, FirstPlace, count-after, Inserted, Removed, Shifted, Changed}
+use Rattle.pairs.specs.Accepted.{AcceptedPairs}
+use Rattle.pairs.specs.Change.{with-pair, graph-with, FirstPlace, count-after, Inserted, Removed, Shifted, Changed}
 use Rattle.pairs.proofs.Place.{number, held, room, listed-first, stands-listed, unlisted-behind}
 use Rattle.pairs.proofs.Words.{drop-more, padded-done}
 
@@ -24,6 +24,22 @@ by-place k p f g h =
     elim (decLt k p) [ yes a ↦ f a | no a ↦ elim (ℕ-discrete k p) [ yes e ↦ g e | no n ↦ h (omega arith) ] ]
 
 -- ---- the pair of a message, added or removed
+
+module _ (c : ℕ → ℕ → Bool) (u v : ℕ) (to : Bool) where
+  with-pair-same : with-pair c u v to u v ≡ to
+  with-pair-same = rw (test-true (eqb u u && eqb v v) (and-both (eqb u u) (eqb v v) (eqb-refl u) (eqb-refl v)), with-pair)
+
+  with-pair-other : (a d : ℕ) → (a ≡ u → d ≡ v → ⊥) → with-pair c u v to a d ≡ c a d
+  with-pair-other a d n =
+      rw (test-false (eqb a u && eqb d v) (λ t. n (eqb→eq a u (and-left (eqb a u) (eqb d v) t)) (eqb→eq d v (and-right (eqb a u) (eqb d v) t))), with-pair)
+
+-- a pair is the given one, or another
+by-pair {ℓ} : {C : Type ℓ} (a d u v : ℕ) → (a ≡ u → d ≡ v → C) → ((a ≡ u → d ≡ v → ⊥) → C) → C
+by-pair a d u v f g =
+    elim (ℕ-discrete a u) [
+      | yes p ↦ elim (ℕ-discrete d v) [ yes q ↦ f p q | no q ↦ g (λ _ e. q e) ]
+      | no p ↦ g (λ e _. p e)
+    ]
 
 module _ (c : ℕ → ℕ → Bool) (u v : ℕ) where
   added-keeps : (a d : ℕ) → T (c a d) → T (with-pair c u v true a d)

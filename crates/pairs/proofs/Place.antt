@@ -14,15 +14,19 @@ use lib.ListN.{getD}
 use Rattle.model.specs.declared.Head.{Head}
 use Rattle.model.specs.Graph.{Graph}
 use Rattle.model.specs.Layout.{pair-places, pair-at, listed, graph}
-use Rattle.model.specs.Message.{pair-numbers}
+use Rattle.model.specs.Contents.{pair-numbers}
 use Rattle.model.proofs.Count.{test-ext, and-left, and-right, and-both, count-le, count-less}
 use Rattle.model.proofs.Pairs.{Pairs, pair-stands, listed-place, place-listed, table-pairs, pairs-count, length-passing, cleared-number}
-use Rattle.tables.specs.Table.{AcceptedPairs}
+use Rattle.pairs.specs.Accepted.{AcceptedPairs}
 use Rattle.pairs.specs.Change.{FirstPlace}
 
 -- the number of the pair at place i
 abbrev pub number : ℕ → List ℕ → List ℕ → ℕ → ℕ
 number m operators rides i = getD operators i 0 * m + getD rides i 0
+
+-- a product of two 16-bit numbers
+pub product-fits : (a b : ℕ) → a < 65536 → b < 65536 → a * b < 4294967296
+product-fits a b h l = omega (arith, mul-le-mul-right b (let k : a ≤ 65535 = omega arith in k))
 
 -- a pair table has at most 12,000 places
 pub product-small : (n m : ℕ) → n ≤ 200 → m ≤ 60 → n * m ≤ 12000

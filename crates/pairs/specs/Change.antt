@@ -1,23 +1,23 @@
--- Document 01, Message: a taken message adds the pair to the pair arrays, or removes it, where needed.
+-- Inner contracts: a taken message adds its pair to the pair arrays, or removes it, where needed.
 use mathlib.Core.Path.{_≡_}
-use mathlib.Core.Bool.{Bool, true, false, not}
+use mathlib.Core.Bool.{Bool, true, false, _&&_, not}
 use mathlib.Core.List.{List, map}
 use Prim.Native.Nat.{ℕ, _+_, _-_, _*_, _/_, _%_, _≤_, _<_}
+use lib.Dec.{eqb}
 use lib.ListN.{length, getD, drop}
 use Rattle.model.specs.declared.Head.{Head}
 use Rattle.model.specs.Count.{bit}
 use Rattle.model.specs.Graph.{Graph}
-use Rattle.model.specs.Layout.{pair-places, over, listed}
-use Rattle.model.specs.Message.{with-pair, pair-numbers, padded}
+use Rattle.model.specs.Layout.{pair-places, over, listed, sized}
+use Rattle.model.specs.Contents.{pair-numbers, padded}
 
--- the clearance graph of a pair table with the pair (u, v) added (true) or removed (false)
+-- the clearances c with the pair (u, v) added (true) or removed (false)
+abbrev pub with-pair : (ℕ → ℕ → Bool) → ℕ → ℕ → Bool → ℕ → ℕ → Bool
+with-pair c u v to a d = elim (eqb a u && eqb d v) [ true ↦ to | false ↦ c a d ]
+
+-- the clearance graph of a pair table with the pair (u, v) added or removed
 abbrev pub graph-with : Head → List ℕ → List ℕ → ℕ → ℕ → Bool → Graph
-graph-with h operators rides u v to =
-    record {
-      operators = h .operators;
-      rides = h .rides;
-      cleared = with-pair (listed (h .pairs) operators rides) u v to;
-    }
+graph-with h operators rides u v to = sized h (with-pair (listed (h .pairs) operators rides) u v to)
 
 -- p is the first place whose pair is not before (u, v): pairs are in order as their numbers operator × rides + ride are
 pub record FirstPlace (h : Head) (operators rides : List ℕ) (u v p : ℕ) : Type 0 where

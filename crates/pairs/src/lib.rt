@@ -1,14 +1,57 @@
-// The pair arrays: the place of a pair, and the arrays after a taken message.
+// The pair arrays: the check of their order and range, the place of a pair, and the arrays after a taken message.
 ghost use mathlib.Core.Path.{_≡_};
-ghost use mathlib.Core.Bool.{true, _&&_};
-ghost use mathlib.Core.List.{_++_};
-ghost use Prim.Native.Nat.{_+_, _-_, _<_, _≤_};
+ghost use mathlib.Core.Bool.{true, not, _&&_};
+ghost use Prim.Native.Nat.{_+_, _<_, _≤_};
 ghost use lib.Dec.{ltb};
-ghost use lib.ListN.{length, take, replicate};
-ghost use Rattle.model.specs.Layout.{pair-places, over, pair-at, listed};
-ghost use Rattle.tables.specs.Table.{AcceptedPairs};
+ghost use lib.ListN.{length};
+ghost use Rattle.model.specs.Layout.{pair-places, pair-at, listed};
+ghost use Rattle.model.specs.Refusal.{misplaced as misplaced-at, refused-5};
+ghost use Rattle.pairs.specs.Accepted.{AcceptedPairs};
 ghost use Rattle.pairs.specs.Change.{FirstPlace, count-after, Inserted, Removed, Shifted, Changed};
 use model::Head;
+
+// Whether the pair at place i is out of range, or not after the one before it.
+fn misplaced(head: Head, operators: &[u16], rides: &[u16], i: usize) -> bool
+    requires { ⌜ (i < length (now operators)) × (i < length (now rides)) ⌝ }
+    ensures { λ r. ⌜ r ≡ misplaced-at head (now (operators .entry)) (now (rides .entry)) i ⌝ }
+{
+    let u = operators[i];
+    let v = rides[i];
+    if head.operators <= u {
+        return true;
+    }
+    if head.rides <= v {
+        return true;
+    }
+    if i == 0 {
+        return false;
+    }
+    let u0 = operators[i - 1];
+    let v0 = rides[i - 1];
+    if u0 < u {
+        return false;
+    }
+    if u0 == u {
+        return v <= v0;
+    }
+    true
+}
+
+// Whether the listed pairs are in range and strictly ascending: document 01's number 5 does not apply.
+pub fn ascending(head: Head, operators: &[u16], rides: &[u16]) -> bool
+    requires { ⌜ (head .pairs ≤ length (now operators)) × (head .pairs ≤ length (now rides)) ⌝ }
+    ensures { λ r. ⌜ r ≡ not (refused-5 head (now (operators .entry)) (now (rides .entry))) ⌝ }
+{
+    let pairs = head.pairs as usize;
+    let mut i = 0;
+    while i < pairs {
+        if misplaced(head, operators, rides, i) {
+            return false;
+        }
+        i += 1;
+    }
+    true
+}
 
 // The first place whose pair is not before (operator, ride), by halving: pairs are in order as their numbers are.
 fn place_of(head: Head, operator: u16, ride: u16, operators: &[u16], rides: &[u16]) -> usize
@@ -106,7 +149,13 @@ fn remove(array: &mut [u16], place: usize, n: usize)
 
 // Inserts a word where the number of pairs rises to count, and removes the one at the place where it falls.
 fn shift(array: &mut [u16], place: usize, word: u16, pairs: usize, count: usize)
-    requires { ⌜ (place ≤ pairs) × (pairs ≤ length (now array)) × (count ≤ length (now array)) × (count ≤ pairs + 1) × (count < pairs → place < pairs) ⌝ }
+    requires { ⌜
+        (place ≤ pairs) ×
+        (pairs ≤ length (now array)) ×
+        (count ≤ length (now array)) ×
+        (count ≤ pairs + 1) ×
+        (count < pairs → place < pairs)
+        ⌝ }
     ensures { λ _. ⌜ Shifted pairs count place word (now (array .entry)) (now (array .exit)) ⌝ }
 {
     if pairs < count {
@@ -119,18 +168,6 @@ fn shift(array: &mut [u16], place: usize, word: u16, pairs: usize, count: usize)
     remove(array, place, pairs);
 }
 
-// Zeroes the words from one place up to another.
-pub fn clear_tail(array: &mut [u16], from: usize, to: usize)
-    requires { ⌜ (from ≤ to) × (to ≤ length (now array)) ⌝ }
-    ensures { λ _. ⌜ now (array .exit) ≡ over (take from (now (array .entry)) ++ replicate (to - from) 0) (now (array .entry)) ⌝ }
-{
-    let mut i = from;
-    while i < to {
-        array[i] = 0;
-        i += 1;
-    }
-}
-
 // Adds the pair to the pair arrays (a grant) or removes it (a withdrawal) where needed, and zeroes their tails; the new number of pairs.
 pub fn change(
     head: Head,
@@ -140,8 +177,17 @@ pub fn change(
     operators: &mut [u16],
     rides: &mut [u16],
 ) -> u16
-    requires { ⌜ AcceptedPairs head (now operators) (now rides) × (operator < head .operators) × (ride < head .rides) × (pair-places head ≤ length (now operators)) × (pair-places head ≤ length (now rides)) ⌝ }
-    ensures { λ r. ⌜ Changed head (now (operators .entry)) (now (rides .entry)) operator ride grant r (now (operators .exit)) (now (rides .exit)) ⌝ }
+    requires { ⌜
+        AcceptedPairs head (now operators) (now rides) ×
+        (operator < head .operators) ×
+        (ride < head .rides) ×
+        (pair-places head ≤ length (now operators)) ×
+        (pair-places head ≤ length (now rides))
+        ⌝ }
+    ensures { λ r. ⌜
+        Changed head (now (operators .entry)) (now (rides .entry)) operator ride grant r
+        (now (operators .exit)) (now (rides .exit))
+        ⌝ }
 {
     let places = head.operators as usize * head.rides as usize;
     let pairs = head.pairs as usize;
@@ -150,7 +196,7 @@ pub fn change(
     let count = count_of(pairs, stands, grant);
     shift(operators, place, operator, pairs, count);
     shift(rides, place, ride, pairs, count);
-    clear_tail(operators, count, places);
-    clear_tail(rides, count, places);
+    words::fill(operators, count, places, 0);
+    words::fill(rides, count, places, 0);
     count as u16
 }

@@ -1,3 +1,4 @@
 pub mod Rows
 pub mod Steps
 pub mod Run
+pub mod Limits

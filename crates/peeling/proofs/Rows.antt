@@ -2,8 +2,7 @@
 use mathlib.Core.Path.{_≡_, sym, ap, ap₂, _∙_}
 use mathlib.Core.Bool.{Bool, _&&_}
 use mathlib.Core.List.{List, _++_}
-use Prim.Native.Nat.{ℕ, suc, _+_, _-_, _*_, _≤_, _<_}
-use native.Mathlib.Nat.{mul-le-mul-right, suc-mul}
+use Prim.Native.Nat.{ℕ, _+_, _-_, _*_, _≤_, _<_}
 use native.Mathlib.Omega.{arith}
 use lib.Dec.{eqb}
 use lib.ListN.{length, getD, take, drop, length-append, List·getD-append}
@@ -14,12 +13,13 @@ use Rattle.model.proofs.Count.{bit-test, bit-le, count-ext}
 use Rattle.model.proofs.Store.{part-length, part-at}
 use Rattle.model.proofs.Peel.{degree-operator, degree-ride}
 use Rattle.tables.specs.Table.{Table}
+use Rattle.tables.proofs.Place.{row-inside}
 use Rattle.peeling.specs.Steps.{Ready, Beside, common-ones}
 
 -- row i of a table, as code lends it
 module _ (r : ℕ → ℕ → Bool) (a b w : ℕ) (t : List ℕ) (h : Table r a b w t) (i : ℕ) (l : i < a) (c : ℕ) (e : c ≡ b) where
   row-fits : i * w + c ≤ length t
-  row-fits = omega (arith, h .wide, h .size, mul-le-mul-right w (let s : suc i ≤ a = omega arith in s), suc-mul i w)
+  row-fits = row-inside a w i c l (omega (arith, h .wide)) (length t) (h .size)
 
   abbrev row : List ℕ
   row = take (i * w + c - i * w) (drop (i * w) t)
@@ -68,7 +68,7 @@ module _ (g : Graph) (n m : ℕ) (rows columns marks : List ℕ) (o : Ready g n 
         row-beside (g .cleared) (g .operators) (g .rides) 60 rows (o .tables .by-operator) x operator m (o .rides) marks ride-marks (λ j. n + j)
         (part-length marks n m room)
         (λ j. part-at marks n m room j 0)
-        (omega (arith, o .rides, o .tables .most-rides))
+        (omega (arith, o .rides, o .tables .by-operator .wide))
         (λ j l. o .in-use (n + j) (omega (arith, o .operators, o .rides)))
 
     pub operator-degree : common-ones (length operator-row) operator-row ride-marks ≡ degree g (marked marks) x
@@ -96,7 +96,7 @@ module _ (g : Graph) (n m : ℕ) (rows columns marks : List ℕ) (o : Ready g n 
         row-beside (λ v u. g .cleared u v) (g .rides) (g .operators) 200 columns (o .tables .by-ride) (x - n) ride n (o .operators) marks operator-marks (λ j. j)
         operator-marks-length
         (λ j k. getD-take (n - 0) marks j 0 (omega arith))
-        (omega (arith, o .operators, o .tables .most-operators))
+        (omega (arith, o .operators, o .tables .by-ride .wide))
         (λ j k. o .in-use j (omega (arith, o .operators)))
 
     pub ride-degree : common-ones (length ride-row) ride-row operator-marks ≡ degree g (marked marks) x

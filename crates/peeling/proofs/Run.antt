@@ -11,7 +11,7 @@ use Rattle.model.specs.Graph.{Graph, nodes, short, settled, removals, peel}
 use Rattle.model.specs.Calls.{peeled}
 use Rattle.model.proofs.Peel.{peel-spent, peel-settled, peel-step, steps-past, settled-past, peel-past}
 use Rattle.peeling.specs.declared.State.{State}
-use Rattle.peeling.specs.Steps.{StateOf, Started, padded, Stepped, Ran, Gives}
+use Rattle.peeling.specs.Steps.{StateOf, Started, first-marks, Stepped, Ran, Gives}
 
 module _ (g : Graph) (limit : ℕ → ℕ) (allowed : ℕ) (s₀ : State) where
   -- on the way from s₀: the peel from s₀ is the steps taken and the peel from s, with the steps that are left
@@ -68,7 +68,7 @@ module _ (g : Graph) (limit : ℕ → ℕ) (allowed : ℕ) (came : List ℕ) (ro
   abbrev behind : List ℕ
   behind = drop (nodes g) (replicate 260 0)
 
-  last-marks : s .marks ≡ peel g limit allowed (padded (nodes g) came)
+  last-marks : s .marks ≡ peel g limit allowed (first-marks (nodes g) came)
   last-marks = run .marks ∙ ap (peel g limit allowed) (start .marks)
 
   pub peel-gives : (word : ℕ) (left : List ℕ) → word ≡ bit (settled g limit (s .marks)) → left ≡ take (nodes g) (s .marks) ++ drop (nodes g) came → Gives (peeled g limit allowed came) (record { code = 0; settled = word; steps = s .steps }) left

@@ -12,7 +12,8 @@ use lib.ListN.{length, getD, set, take, drop}
 use Rattle.model.specs.Graph.{Graph, nodes, degree, marked, short}
 use Rattle.model.proofs.Peel.{marked-cleared, marked-other, degree-lost-ride, degree-lost-operator, degree-same-operator, degree-same-ride}
 use Rattle.peeling.specs.declared.State.{State}
-use Rattle.peeling.specs.Steps.{Tables, StateOf, Clears, Cleared, Stepped}
+use Rattle.tables.specs.Table.{Tables}
+use Rattle.peeling.specs.Steps.{StateOf, Clears, Cleared, Stepped}
 use Rattle.peeling.proofs.Rows.{row-length, row-at}
 
 -- who falls short, read off the state
@@ -58,8 +59,8 @@ module _ (g : Graph) (rows columns : List ℕ) (t : Tables g rows columns) (s : 
     pub operator-clears : s .steps < 65535 → Clears s x n operator-row
     operator-clears k =
         record {
-          node = omega (arith, t .most-operators);
-          fits = omega (arith, operator-length, t .most-operators, t .most-rides);
+          node = omega (arith, t .by-ride .wide);
+          fits = omega (arith, operator-length, t .by-ride .wide, t .by-operator .wide);
           steps = k;
           enough = λ v l. omega (arith, operator-takes v (omega (arith, operator-length)));
         }
@@ -98,8 +99,8 @@ module _ (g : Graph) (rows columns : List ℕ) (t : Tables g rows columns) (s : 
     pub ride-clears : s .steps < 65535 → Clears s x 0 ride-row
     ride-clears w =
         record {
-          node = omega (arith, t .most-operators, t .most-rides);
-          fits = omega (arith, ride-length, t .most-operators);
+          node = omega (arith, t .by-ride .wide, t .by-operator .wide);
+          fits = omega (arith, ride-length, t .by-ride .wide);
           steps = w;
           enough = λ u l. omega (arith, ride-takes u (omega (arith, ride-length)));
         }

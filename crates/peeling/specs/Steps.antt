@@ -1,4 +1,4 @@
--- Document 01, Peel: what a state of a peel is, and what its step, a run of steps and the whole peel leave.
+-- Inner contracts: what a state of a peel is, and what its step, a run of steps and the whole peel leave.
 use mathlib.Core.Path.{_≡_}
 use mathlib.Core.Bool.{_&&_}
 use mathlib.Core.List.{List, _++_}
@@ -9,14 +9,7 @@ use Rattle.model.specs.declared.Peeled.{Peeled}
 use Rattle.model.specs.Count.{count}
 use Rattle.model.specs.Graph.{Graph, nodes, degree, marked, removals, peel}
 use Rattle.model.specs.Calls.{PeelOutcome}
-use Rattle.tables.specs.Table.{ByOperator, ByRide}
-
--- the tables hold the clearances of g: rows by operator, columns by ride
-pub record Tables (g : Graph) (rows columns : List ℕ) : Type 0 where
-  pub most-operators : g .operators ≤ 200
-  pub most-rides : g .rides ≤ 60
-  pub by-operator : ByOperator g rows
-  pub by-ride : ByRide g columns
+use Rattle.tables.specs.Table.{Tables}
 
 -- what a peel of g starts from: its sizes and tables, and marks for all its nodes, each 0 or 1
 pub record Ready (g : Graph) (n m : ℕ) (rows columns marks : List ℕ) : Type 0 where
@@ -37,13 +30,13 @@ pub record StateOf (g : Graph) (s : State) : Type 0 where
   pub degrees : Degrees g (s .marks) (s .degrees)
 
 -- the marks of a first state: those of k nodes, and zeros up to the state's end
-abbrev pub padded : ℕ → List ℕ → List ℕ
-padded k marks = take k marks ++ drop k (replicate 260 0)
+abbrev pub first-marks : ℕ → List ℕ → List ℕ
+first-marks k marks = take k marks ++ drop k (replicate 260 0)
 
 -- the first state: no step taken, and the marks that came in
 pub record Started (g : Graph) (came : List ℕ) (r : State) : Type 0 where
   pub steps : r .steps ≡ 0
-  pub marks : r .marks ≡ padded (nodes g) came
+  pub marks : r .marks ≡ first-marks (nodes g) came
   pub state : StateOf g r
 
 -- a row beside as many marks, at most 200, all of them 0 or 1

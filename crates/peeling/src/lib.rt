@@ -7,9 +7,12 @@ ghost use Prim.Native.Nat.{_+_, _≤_, _<_};
 ghost use lib.Dec.{T, ltb, eqb};
 ghost use lib.ListN.{length, take, drop};
 ghost use Rattle.model.specs.Count.{bit, lowest};
-ghost use Rattle.model.specs.Graph.{Graph, nodes, degree, limits, marked, short, settled};
+ghost use Rattle.model.specs.Graph.{Graph, nodes, degree, marked, short, settled};
 ghost use Rattle.model.specs.Calls.{peeled};
-ghost use Rattle.peeling.specs.Steps.{Tables, Ready, Degrees, StateOf, Started, Beside, common-ones, Clears, Cleared, Stepped, Ran, Gives};
+ghost use Rattle.model.specs.Layout.{mark-places};
+ghost use Rattle.limits.specs.Limits.{limit-of};
+ghost use Rattle.tables.specs.Table.{Tables};
+ghost use Rattle.peeling.specs.Steps.{Ready, Degrees, StateOf, Started, Beside, common-ones, Clears, Cleared, Stepped, Ran, Gives};
 use model::Head;
 use model::Peeled;
 use tables::subtract;
@@ -49,7 +52,10 @@ fn degree_of(
 ) -> u8
     requires { ⌜ ((g : Graph) × Ready g operators rides (now rows) (now columns) (now marks)) ⌝ }
     requires { ⌜ x < operators + rides ⌝ }
-    ensures { λ r. ⌜ ((g : Graph) → Ready g operators rides (now (rows .entry)) (now (columns .entry)) (now (marks .entry)) → r ≡ degree g (marked (now (marks .entry))) x) ⌝ }
+    ensures { λ r. ⌜
+        ((g : Graph) → Ready g operators rides (now (rows .entry)) (now (columns .entry)) (now (marks .entry)) →
+        r ≡ degree g (marked (now (marks .entry))) x)
+        ⌝ }
 {
     if x < operators {
         let from = x * 60;
@@ -73,7 +79,10 @@ fn fill_degrees(
 )
     requires { ⌜ ((g : Graph) × Ready g operators rides (now rows) (now columns) (now marks)) ⌝ }
     requires { ⌜ operators + rides ≤ length (now degrees) ⌝ }
-    ensures { λ _. ⌜ ((g : Graph) → Ready g operators rides (now (rows .entry)) (now (columns .entry)) (now (marks .entry)) → Degrees g (now (marks .entry)) (now (degrees .exit))) ⌝ }
+    ensures { λ _. ⌜
+        ((g : Graph) → Ready g operators rides (now (rows .entry)) (now (columns .entry)) (now (marks .entry)) →
+        Degrees g (now (marks .entry)) (now (degrees .exit)))
+        ⌝ }
 {
     let nodes = operators + rides;
     let mut x = 0;
@@ -102,18 +111,15 @@ fn falls_short(mark: u16, degree: u8, limit: u16) -> bool
     mark == 1 && (degree as u16) < limit
 }
 
-// The limit of node x.
-fn limit_of(operators: usize, alpha: u16, beta: u16, x: usize) -> u16
-    ensures { λ r. ⌜ ((g : Graph) → operators ≡ g .operators → r ≡ limits g alpha beta x) ⌝ }
-{
-    if x < operators { alpha } else { beta }
-}
-
 impl State {
     // The first state, from marks that came in.
     fn start(head: Head, rows: &[u8], columns: &[u8], marks: &[u16]) -> State
         requires { ⌜ ((g : Graph) × Ready g (head .operators) (head .rides) (now rows) (now columns) (now marks)) ⌝ }
-        ensures { λ r. ⌜ ((g : Graph) → Ready g (head .operators) (head .rides) (now (rows .entry)) (now (columns .entry)) (now (marks .entry)) → Started g (now (marks .entry)) r) ⌝ }
+        ensures { λ r. ⌜
+            ((g : Graph) →
+            Ready g (head .operators) (head .rides) (now (rows .entry)) (now (columns .entry)) (now (marks .entry)) →
+            Started g (now (marks .entry)) r)
+            ⌝ }
     {
         let operators = head.operators as usize;
         let rides = head.rides as usize;
@@ -131,20 +137,18 @@ impl State {
     }
 
     // The lowest node that falls short, or the number of nodes where nobody does.
-    fn lowest_short(self, alpha: u16, beta: u16) -> usize
-        requires { ⌜ self .operators + self .rides ≤ 260 ⌝ }
-        ensures { λ r. ⌜ ((g : Graph) → StateOf g self → r ≡ lowest (nodes g) (short g (limits g alpha beta) (self .marks))) ⌝ }
+    fn lowest_short(self, limits: &[u16]) -> usize
+        requires { ⌜ (self .operators + self .rides ≤ 260) × (self .operators + self .rides ≤ length (now limits)) ⌝ }
+        ensures { λ r. ⌜
+            ((g : Graph) → StateOf g self → r ≡ lowest (nodes g) (short g (limit-of (now (limits .entry))) (self .marks)))
+            ⌝ }
     {
         let operators = self.operators as usize;
         let rides = self.rides as usize;
         let nodes = operators + rides;
         let mut x = 0;
         while x < nodes {
-            if falls_short(
-                self.marks[x],
-                self.degrees[x],
-                limit_of(operators, alpha, beta, x),
-            ) {
+            if falls_short(self.marks[x], self.degrees[x], limits[x]) {
                 return x;
             }
             x += 1;
@@ -184,17 +188,20 @@ impl State {
     }
 
     // The state after steps that each clear the lowest node that falls short, as many as are allowed and needed.
-    pub fn run(self, rows: &[u8], columns: &[u8], alpha: u16, beta: u16, allowed: u16) -> State
+    pub fn run(self, rows: &[u8], columns: &[u8], limits: &[u16], allowed: u16) -> State
         requires { ⌜ ((g : Graph) × Tables g (now rows) (now columns) × StateOf g self) ⌝ }
-        requires { ⌜ self .steps ≡ 0 ⌝ }
-        ensures { λ r. ⌜ ((g : Graph) → Tables g (now (rows .entry)) (now (columns .entry)) → StateOf g self → Ran g (limits g alpha beta) allowed self r) ⌝ }
+        requires { ⌜ (self .steps ≡ 0) × (self .operators + self .rides ≤ length (now limits)) ⌝ }
+        ensures { λ r. ⌜
+            ((g : Graph) → Tables g (now (rows .entry)) (now (columns .entry)) → StateOf g self →
+            Ran g (limit-of (now (limits .entry))) allowed self r)
+            ⌝ }
     {
         let operators = self.operators as usize;
         let rides = self.rides as usize;
         let nodes = operators + rides;
         let mut state = self;
         while state.steps < allowed {
-            let x = state.lowest_short(alpha, beta);
+            let x = state.lowest_short(limits);
             if nodes <= x {
                 return state;
             }
@@ -204,13 +211,15 @@ impl State {
     }
 
     // Settled (1) where nobody falls short, else unsettled (0).
-    fn settled(self, alpha: u16, beta: u16) -> u16
-        requires { ⌜ self .operators + self .rides ≤ 260 ⌝ }
-        ensures { λ r. ⌜ ((g : Graph) → StateOf g self → r ≡ bit (settled g (limits g alpha beta) (self .marks))) ⌝ }
+    fn settled(self, limits: &[u16]) -> u16
+        requires { ⌜ (self .operators + self .rides ≤ 260) × (self .operators + self .rides ≤ length (now limits)) ⌝ }
+        ensures { λ r. ⌜
+            ((g : Graph) → StateOf g self → r ≡ bit (settled g (limit-of (now (limits .entry))) (self .marks)))
+            ⌝ }
     {
         let operators = self.operators as usize;
         let rides = self.rides as usize;
-        if self.lowest_short(alpha, beta) < operators + rides {
+        if self.lowest_short(limits) < operators + rides {
             0
         } else {
             1
@@ -218,27 +227,31 @@ impl State {
     }
 }
 
-// Peel: clears marks, each time the lowest operator that falls short, else the lowest ride, in at most the allowed steps.
+// Peel: clears marks, each time the lowest operator that falls short of its limit, else the lowest ride, in at most the allowed steps.
 pub fn peel(
     head: Head,
     rows: &[u8],
     columns: &[u8],
+    limits: &[u16],
     marks: &mut [u16],
-    alpha: u16,
-    beta: u16,
     allowed: u16,
 ) -> Peeled
     requires { ⌜ ((g : Graph) × Ready g (head .operators) (head .rides) (now rows) (now columns) (now marks)) ⌝ }
-    ensures { λ r. ⌜ ((g : Graph) → Ready g (head .operators) (head .rides) (now (rows .entry)) (now (columns .entry)) (now (marks .entry)) → Gives (peeled g (limits g alpha beta) allowed (now (marks .entry))) r (now (marks .exit))) ⌝ }
+    requires { ⌜ mark-places head ≤ length (now limits) ⌝ }
+    ensures { λ r. ⌜
+        ((g : Graph) →
+        Ready g (head .operators) (head .rides) (now (rows .entry)) (now (columns .entry)) (now (marks .entry)) →
+        Gives (peeled g (limit-of (now (limits .entry))) allowed (now (marks .entry))) r (now (marks .exit)))
+        ⌝ }
 {
     let operators = head.operators as usize;
     let rides = head.rides as usize;
-    let last = State::start(head, rows, columns, marks).run(rows, columns, alpha, beta, allowed);
+    let last = State::start(head, rows, columns, marks).run(rows, columns, limits, allowed);
     let left = last.marks;
     copy_marks(&left, marks, operators + rides);
     Peeled {
         code: 0,
-        settled: last.settled(alpha, beta),
+        settled: last.settled(limits),
         steps: last.steps,
     }
 }

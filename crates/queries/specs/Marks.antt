@@ -1,4 +1,4 @@
--- The marks of one row of the index, word by word.
+-- Inner contracts: the marks of one row of the index, word by word.
 use mathlib.Core.Path.{_≡_}
 use mathlib.Core.List.{List}
 use Prim.Native.Nat.{ℕ, _+_, _-_, _<_}

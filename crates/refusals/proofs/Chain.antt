@@ -3,133 +3,98 @@ use mathlib.Core.Path.{_≡_, refl, sym, _∙_, subst}
 use mathlib.Core.Logic.{_≢_}
 use mathlib.Core.Bool.{Bool, true, false, _||_, not}
 use mathlib.Core.List.{List, [], _∷_, _++_}
-use Prim.Native.Nat.{ℕ, _*_, _≤_, _<_}
+use Prim.Native.Nat.{ℕ, _≤_, _<_}
 use native.Mathlib.Omega.{arith}
-use native.Mathlib.Nat.{mul-le-mul-right}
 use lib.Dec.{T, ltb, eqb, lt→ltb, eqb→eq, T-not}
 use borrow.Author.Tests.{lt-ltb, le-ltb, eq-eqb}
 use lib.ListN.{length, getD}
 use Rattle.model.specs.declared.Head.{Head}
 use Rattle.model.specs.Count.{some}
-use Rattle.model.specs.Layout.{Board, pair-places, mark-places, index-places}
-use Rattle.model.specs.Refusal.{refused-1, refused-2, refused-3, refused-4, refused-5, refused-9, refused-11, refused-12, board-short, lowest-number, table-cases, build-refusal, query-refusal, peel-refusal}
-use Rattle.model.proofs.Count.{by-test, test-true, test-false, some-holds, some-witness, or-left, or-right, or-cases}
-use Rattle.model.proofs.Refusal.{lowest-nil, lowest-here, lowest-skip, lowest-none, enough, not-less}
-
--- a product of two 16-bit numbers
-pub product-fits : (a b : ℕ) → a < 65536 → b < 65536 → a * b < 4294967296
-product-fits a b h l = omega (arith, mul-le-mul-right b (let k : a ≤ 65535 = omega arith in k))
+use Rattle.model.specs.Layout.{Part, Operators, Rides, Board, pair-places, mark-places, index-places, places}
+use Rattle.model.specs.Refusal.{refused-1, refused-2, refused-3, refused-4, refused-5, refused-9, refused-11, refused-12, board-short, first-number, table-cases, build-refusal, query-refusal, peel-refusal}
+use Rattle.model.proofs.Count.{test-true, test-false, some-holds, some-witness, or-left, or-right, or-cases}
+use Rattle.model.proofs.Chain.{first-nil, first-here, first-skip, first-none, enough, not-less, Positive, first-front, first-behind}
+use Rattle.model.proofs.Parts.{short-part, long-board}
 
 -- ---- 3
 
 module _ (b : Board) where
-  pub short-operators : length (b .operators) < pair-places (b .head) → true ≡ board-short b
-  short-operators h = rw (lt-ltb (length (b .operators)) (pair-places (b .head)) h)
+  pub short-at : (p : Part) → length (b .part p) < places (b .head) p → true ≡ board-short b
+  short-at p l = sym (test-true (board-short b) (short-part b p l))
 
-  module _ (long : pair-places (b .head) ≤ length (b .operators)) where
-    pub short-rides : length (b .rides) < pair-places (b .head) → true ≡ board-short b
-    short-rides h = rw (le-ltb (length (b .operators)) (pair-places (b .head)) long, lt-ltb (length (b .rides)) (pair-places (b .head)) h)
-
-    module _ (long′ : pair-places (b .head) ≤ length (b .rides)) where
-      pub short-stamps : length (b .stamps) < pair-places (b .head) → true ≡ board-short b
-      short-stamps h = rw (le-ltb (length (b .operators)) (pair-places (b .head)) long, le-ltb (length (b .rides)) (pair-places (b .head)) long′, lt-ltb (length (b .stamps)) (pair-places (b .head)) h)
-
-      pub short-index : pair-places (b .head) ≤ length (b .stamps) → ltb (length (b .index)) (index-places (b .head)) ≡ board-short b
-      short-index h = rw (le-ltb (length (b .operators)) (pair-places (b .head)) long, le-ltb (length (b .rides)) (pair-places (b .head)) long′, le-ltb (length (b .stamps)) (pair-places (b .head)) h)
+  pub short-nowhere : ((p : Part) → places (b .head) p ≤ length (b .part p)) → false ≡ board-short b
+  short-nowhere l = sym (test-false (board-short b) (long-board b l))
 
 -- ---- 1 to 5
 
 module _ (h : Head) (short : Bool) (operators rides : List ℕ) where
   abbrev Number : ℕ
-  Number = lowest-number (table-cases h short operators rides)
+  Number = first-number (table-cases h short operators rides)
 
   pub table-1 : 200 < h .operators → 1 ≡ Number
-  table-1 k = sym (lowest-here 1 (refused-1 h) _ (lt→ltb 200 (h .operators) k))
+  table-1 k = sym (first-here 1 (refused-1 h) _ (lt→ltb 200 (h .operators) k))
 
   module _ (a : h .operators ≤ 200) where
-    skip-1 : (cs : List (ℕ × Bool)) → lowest-number ((1, refused-1 h) ∷ cs) ≡ lowest-number cs
-    skip-1 cs = lowest-skip 1 (refused-1 h) cs (not-less 200 (h .operators) a)
+    skip-1 : (cs : List (ℕ × Bool)) → first-number ((1, refused-1 h) ∷ cs) ≡ first-number cs
+    skip-1 cs = first-skip 1 (refused-1 h) cs (not-less 200 (h .operators) a)
 
     pub table-2 : 60 < h .rides → 2 ≡ Number
-    table-2 k = sym (skip-1 _ ∙ lowest-here 2 (refused-2 h) _ (lt→ltb 60 (h .rides) k))
+    table-2 k = sym (skip-1 _ ∙ first-here 2 (refused-2 h) _ (lt→ltb 60 (h .rides) k))
 
     module _ (b : h .rides ≤ 60) where
-      skip-2 : (cs : List (ℕ × Bool)) → lowest-number ((1, refused-1 h) ∷ (2, refused-2 h) ∷ cs) ≡ lowest-number cs
-      skip-2 cs = skip-1 _ ∙ lowest-skip 2 (refused-2 h) cs (not-less 60 (h .rides) b)
+      skip-2 : (cs : List (ℕ × Bool)) → first-number ((1, refused-1 h) ∷ (2, refused-2 h) ∷ cs) ≡ first-number cs
+      skip-2 cs = skip-1 _ ∙ first-skip 2 (refused-2 h) cs (not-less 60 (h .rides) b)
 
       pub table-3 : short ≡ true → 3 ≡ Number
-      table-3 e = sym (skip-2 _ ∙ lowest-here 3 short _ (subst T (sym e) tt))
+      table-3 e = sym (skip-2 _ ∙ first-here 3 short _ (subst T (sym e) tt))
 
       module _ (e : short ≡ false) where
-        skip-3 : (cs : List (ℕ × Bool)) → lowest-number ((1, refused-1 h) ∷ (2, refused-2 h) ∷ (3, short) ∷ cs) ≡ lowest-number cs
-        skip-3 cs = skip-2 _ ∙ lowest-skip 3 short cs (λ t. subst T e t)
+        skip-3 : (cs : List (ℕ × Bool)) → first-number ((1, refused-1 h) ∷ (2, refused-2 h) ∷ (3, short) ∷ cs) ≡ first-number cs
+        skip-3 cs = skip-2 _ ∙ first-skip 3 short cs (λ t. subst T e t)
 
         pub table-4 : pair-places h < h .pairs → 4 ≡ Number
-        table-4 k = sym (skip-3 _ ∙ lowest-here 4 (refused-4 h) _ (lt→ltb (pair-places h) (h .pairs) k))
+        table-4 k = sym (skip-3 _ ∙ first-here 4 (refused-4 h) _ (lt→ltb (pair-places h) (h .pairs) k))
 
         module _ (k : h .pairs ≤ pair-places h) where
-          skip-4 : (cs : List (ℕ × Bool)) → lowest-number ((1, refused-1 h) ∷ (2, refused-2 h) ∷ (3, short) ∷ (4, refused-4 h) ∷ cs) ≡ lowest-number cs
-          skip-4 cs = skip-3 _ ∙ lowest-skip 4 (refused-4 h) cs (not-less (pair-places h) (h .pairs) k)
+          skip-4 : (cs : List (ℕ × Bool)) → first-number ((1, refused-1 h) ∷ (2, refused-2 h) ∷ (3, short) ∷ (4, refused-4 h) ∷ cs) ≡ first-number cs
+          skip-4 cs = skip-3 _ ∙ first-skip 4 (refused-4 h) cs (not-less (pair-places h) (h .pairs) k)
 
           pub table-5 : not (refused-5 h operators rides) ≡ false → 5 ≡ Number
-          table-5 q = sym (skip-4 _ ∙ lowest-here 5 (refused-5 h operators rides) [] (not-false-T (refused-5 h operators rides) q))
+          table-5 q = sym (skip-4 _ ∙ first-here 5 (refused-5 h operators rides) [] (not-false-T (refused-5 h operators rides) q))
             where
               not-false-T : (t : Bool) → not t ≡ false → T t
               not-false-T true e′ = tt
               not-false-T false e′ = subst T e′ tt
 
           pub table-0 : not (refused-5 h operators rides) ≡ true → 0 ≡ Number
-          table-0 q = sym (skip-4 _ ∙ lowest-skip 5 (refused-5 h operators rides) [] (T-not (refused-5 h operators rides) (subst T (sym q) tt)) ∙ lowest-nil)
+          table-0 q = sym (skip-4 _ ∙ first-skip 5 (refused-5 h operators rides) [] (T-not (refused-5 h operators rides) (subst T (sym q) tt)) ∙ first-nil)
 
 -- ---- numbers behind others
-
--- every number of a list is at least 1
-abbrev pub Positive : List (ℕ × Bool) → Type 0
-Positive [] = Unit
-Positive (c ∷ cs) = (1 ≤ c .0) × Positive cs
-
--- where one of the first numbers applies, the others don't count; where none does, they do
-module _ (ds : List (ℕ × Bool)) where
-  pub lowest-first : (cs : List (ℕ × Bool)) → Positive cs → lowest-number cs ≢ 0 → lowest-number (cs ++ ds) ≡ lowest-number cs
-  unfolding lowest-number
-  lowest-first [] p n = absurd (n refl)
-  lowest-first (c ∷ cs) p n =
-      by-test (c .1)
-      (λ t. rw (test-true (c .1) t, lowest-number))
-      (λ f. rw (test-false (c .1) f, lowest-number) (lowest-first cs (p .1) (λ e. n (rw (test-false (c .1) f, lowest-number) e))))
-
-  pub lowest-rest : (cs : List (ℕ × Bool)) → Positive cs → lowest-number cs ≡ 0 → lowest-number (cs ++ ds) ≡ lowest-number ds
-  unfolding lowest-number
-  lowest-rest [] p e = refl
-  lowest-rest (c ∷ cs) p e =
-      by-test (c .1)
-      (λ t. absurd (let q : c .0 ≡ 0 = rw (test-true (c .1) t, lowest-number) at e in let z : ⊥ = omega (arith, p .0) in z))
-      (λ f. rw (test-false (c .1) f, lowest-number) (lowest-rest cs (p .1) (rw (test-false (c .1) f, lowest-number) at e)))
 
 module _ (h : Head) (short : Bool) (operators rides : List ℕ) (ds : List (ℕ × Bool)) where
   positive : Positive (table-cases h short operators rides)
   positive = (omega arith, (omega arith, (omega arith, (omega arith, (omega arith, tt)))))
 
-  pub table-first : (k : ℕ) → k ≡ lowest-number (table-cases h short operators rides) → k ≢ 0 → k ≡ lowest-number (table-cases h short operators rides ++ ds)
-  table-first k e n = e ∙ sym (lowest-first ds (table-cases h short operators rides) positive (λ z. n (e ∙ z)))
+  pub table-first : (k : ℕ) → k ≡ first-number (table-cases h short operators rides) → k ≢ 0 → k ≡ first-number (table-cases h short operators rides ++ ds)
+  table-first k e n = e ∙ sym (first-front ds (table-cases h short operators rides) positive (λ z. n (e ∙ z)))
 
-  pub table-rest : (k : ℕ) → k ≡ lowest-number (table-cases h short operators rides) → k ≡ 0 → lowest-number ds ≡ lowest-number (table-cases h short operators rides ++ ds)
-  table-rest k e z = sym (lowest-rest ds (table-cases h short operators rides) positive (sym e ∙ z))
+  pub table-rest : (k : ℕ) → k ≡ first-number (table-cases h short operators rides) → k ≡ 0 → first-number ds ≡ first-number (table-cases h short operators rides ++ ds)
+  table-rest k e z = sym (first-behind ds (table-cases h short operators rides) positive (sym e ∙ z))
 
 -- ---- build: 9
 
-module _ (b : Board) (start : ℕ) (k : ℕ) (e : k ≡ lowest-number (table-cases (b .head) (board-short b) (b .operators) (b .rides))) where
+module _ (b : Board) (start : ℕ) (k : ℕ) (e : k ≡ first-number (table-cases (b .head) (board-short b) (b .part Operators) (b .part Rides))) where
   pub build-table : k ≢ 0 → k ≡ build-refusal b start
   unfolding build-refusal
-  build-table n = table-first (b .head) (board-short b) (b .operators) (b .rides) ((9, refused-9 start) ∷ []) k e n
+  build-table n = table-first (b .head) (board-short b) (b .part Operators) (b .part Rides) ((9, refused-9 start) ∷ []) k e n
 
   pub build-9 : k ≡ 0 → start ≡ 0 → 9 ≡ build-refusal b start
   unfolding build-refusal
-  build-9 z s = sym (lowest-here 9 (refused-9 start) [] (subst T (sym (eq-eqb start 0 s)) tt)) ∙ table-rest (b .head) (board-short b) (b .operators) (b .rides) ((9, refused-9 start) ∷ []) k e z
+  build-9 z s = sym (first-here 9 (refused-9 start) [] (subst T (sym (eq-eqb start 0 s)) tt)) ∙ table-rest (b .head) (board-short b) (b .part Operators) (b .part Rides) ((9, refused-9 start) ∷ []) k e z
 
   pub build-0 : k ≡ 0 → start ≢ 0 → 0 ≡ build-refusal b start
   unfolding build-refusal
-  build-0 z s = sym (lowest-skip 9 (refused-9 start) [] (λ t. s (eqb→eq start 0 t)) ∙ lowest-nil) ∙ table-rest (b .head) (board-short b) (b .operators) (b .rides) ((9, refused-9 start) ∷ []) k e z
+  build-0 z s = sym (first-skip 9 (refused-9 start) [] (λ t. s (eqb→eq start 0 t)) ∙ first-nil) ∙ table-rest (b .head) (board-short b) (b .part Operators) (b .part Rides) ((9, refused-9 start) ∷ []) k e z
 
 -- ---- 11
 
@@ -145,20 +110,20 @@ limits-positive α β p q t = or-cases (eqb α 0) (eqb β 0) t (λ k. p (eqb→e
 -- ---- query
 
 -- a number that is tested twice in a row
-lowest-twice : (k : ℕ) (a b : Bool) (cs : List (ℕ × Bool)) → lowest-number ((k, a) ∷ (k, b) ∷ cs) ≡ lowest-number ((k, a || b) ∷ cs)
-unfolding lowest-number
-lowest-twice k true b cs = refl
-lowest-twice k false b cs = refl
+first-twice : (k : ℕ) (a b : Bool) (cs : List (ℕ × Bool)) → first-number ((k, a) ∷ (k, b) ∷ cs) ≡ first-number ((k, a || b) ∷ cs)
+unfolding first-number
+first-twice k true b cs = refl
+first-twice k false b cs = refl
 
 -- what `lowest` gives: a number where it applies, else the one after it
-abbrev pub Lowest : ℕ → Bool → ℕ → ℕ → Type 0
-Lowest k t after r = (cs : List (ℕ × Bool)) → after ≡ lowest-number cs → r ≡ lowest-number ((k, t) ∷ cs)
+abbrev pub First : ℕ → Bool → ℕ → ℕ → Type 0
+First k t after r = (cs : List (ℕ × Bool)) → after ≡ first-number cs → r ≡ first-number ((k, t) ∷ cs)
 
 module _ (h : Head) (index : List ℕ) (α β : ℕ) (marks : List ℕ) (r₁ r₂ r₃ r₄ r₅ r₆ : ℕ) where
-  pub query-lowest : Lowest 11 (eqb β 0) 0 r₁ → Lowest 11 (eqb α 0) r₁ r₂ → Lowest 3 (ltb (length marks) (mark-places h)) r₂ r₃ → Lowest 3 (ltb (length index) (index-places h)) r₃ r₄ → Lowest 2 (refused-2 h) r₄ r₅ → Lowest 1 (refused-1 h) r₅ r₆ → r₆ ≡ query-refusal h index α β marks
+  pub query-first : First 11 (eqb β 0) 0 r₁ → First 11 (eqb α 0) r₁ r₂ → First 3 (ltb (length marks) (mark-places h)) r₂ r₃ → First 3 (ltb (length index) (index-places h)) r₃ r₄ → First 2 (refused-2 h) r₄ r₅ → First 1 (refused-1 h) r₅ r₆ → r₆ ≡ query-refusal h index α β marks
   unfolding query-refusal
-  query-lowest l₁ l₂ l₃ l₄ l₅ l₆ =
-      l₆ _ (l₅ _ (l₄ _ (l₃ _ (l₂ _ (l₁ [] (sym lowest-nil)) ∙ lowest-twice 11 (eqb α 0) (eqb β 0) [])) ∙ lowest-twice 3 (refused-3 (index-places h) index) (refused-3 (mark-places h) marks) _))
+  query-first l₁ l₂ l₃ l₄ l₅ l₆ =
+      l₆ _ (l₅ _ (l₄ _ (l₃ _ (l₂ _ (l₁ [] (sym first-nil)) ∙ first-twice 11 (eqb α 0) (eqb β 0) [])) ∙ first-twice 3 (refused-3 (index-places h) index) (refused-3 (mark-places h) marks) _))
 
 -- ---- peel
 
@@ -171,7 +136,7 @@ module _ (h : Head) (operators rides marks : List ℕ) (α β : ℕ) (k : ℕ) w
   abbrev behind : List (ℕ × Bool)
   behind = (11, refused-11 α β) ∷ (12, refused-12 h marks) ∷ []
 
-  module _ (e : k ≡ lowest-number (table-cases h (short-parts h operators rides marks) operators rides)) where
+  module _ (e : k ≡ first-number (table-cases h (short-parts h operators rides marks) operators rides)) where
     pub peel-table : k ≢ 0 → k ≡ peel-refusal h operators rides marks α β
     unfolding peel-refusal
     peel-table n = table-first h (short-parts h operators rides marks) operators rides behind k e n
@@ -179,18 +144,18 @@ module _ (h : Head) (operators rides marks : List ℕ) (α β : ℕ) (k : ℕ) w
     module _ (z : k ≡ 0) where
       pub peel-11 : T (refused-11 α β) → 11 ≡ peel-refusal h operators rides marks α β
       unfolding peel-refusal
-      peel-11 t = sym (lowest-here 11 (refused-11 α β) _ t) ∙ table-rest h (short-parts h operators rides marks) operators rides behind k e z
+      peel-11 t = sym (first-here 11 (refused-11 α β) _ t) ∙ table-rest h (short-parts h operators rides marks) operators rides behind k e z
 
       module _ (p : α ≢ 0) (q : β ≢ 0) where
-        eleven : lowest-number ((12, refused-12 h marks) ∷ []) ≡ peel-refusal h operators rides marks α β
+        eleven : first-number ((12, refused-12 h marks) ∷ []) ≡ peel-refusal h operators rides marks α β
         unfolding peel-refusal
-        eleven = sym (lowest-skip 11 (refused-11 α β) _ (limits-positive α β p q)) ∙ table-rest h (short-parts h operators rides marks) operators rides behind k e z
+        eleven = sym (first-skip 11 (refused-11 α β) _ (limits-positive α β p q)) ∙ table-rest h (short-parts h operators rides marks) operators rides behind k e z
 
         pub peel-12 : refused-12 h marks ≡ true → 12 ≡ peel-refusal h operators rides marks α β
-        peel-12 t = sym (lowest-here 12 (refused-12 h marks) [] (subst T (sym t) tt)) ∙ eleven
+        peel-12 t = sym (first-here 12 (refused-12 h marks) [] (subst T (sym t) tt)) ∙ eleven
 
         pub peel-0 : refused-12 h marks ≡ false → 0 ≡ peel-refusal h operators rides marks α β
-        peel-0 t = sym (lowest-skip 12 (refused-12 h marks) [] (λ x. subst T t x) ∙ lowest-nil) ∙ eleven
+        peel-0 t = sym (first-skip 12 (refused-12 h marks) [] (λ x. subst T t x) ∙ first-nil) ∙ eleven
 
 -- ---- 3 and 12 of a peel
 
@@ -213,8 +178,8 @@ module _ (h : Head) (operators rides marks : List ℕ) where
   good-marks f = sym (test-false (some (mark-places h) (λ x. ltb 1 (getD marks x 0))) (λ t. let w = some-witness (λ x. ltb 1 (getD marks x 0)) (mark-places h) t in not-less 1 (getD marks (w .0) 0) (f (w .0) (w .1)) (w .2)))
 
 -- where none of 1 to 5 applies, no part is too short
-pub table-long : (h : Head) (short : Bool) (operators rides : List ℕ) → lowest-number (table-cases h short operators rides) ≡ 0 → T short → ⊥
-table-long h short operators rides e = lowest-none 2 short _ (lowest-none 1 (refused-2 h) _ (lowest-none 0 (refused-1 h) _ e .1) .1) .0
+pub table-long : (h : Head) (short : Bool) (operators rides : List ℕ) → first-number (table-cases h short operators rides) ≡ 0 → T short → ⊥
+table-long h short operators rides e = first-none 2 short _ (first-none 1 (refused-2 h) _ (first-none 0 (refused-1 h) _ e .1) .1) .0
 
 -- the three parts of a peel, where none is too short
 pub peel-long : (h : Head) (operators rides marks : List ℕ) → (T (short-parts h operators rides marks) → ⊥) → (pair-places h ≤ length operators) × (pair-places h ≤ length rides) × (mark-places h ≤ length marks)

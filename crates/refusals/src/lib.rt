@@ -5,8 +5,9 @@ ghost use mathlib.Core.List.{List, [], _∷_, _++_};
 ghost use Prim.Native.Nat.{ℕ, _≤_, _<_};
 ghost use lib.ListN.{length};
 ghost use Rattle.model.specs.Layout.{lent, pair-places, mark-places};
-ghost use Rattle.model.specs.Refusal.{refused-3, refused-6, refused-7, refused-8, refused-9, refused-10, refused-12, board-short, lowest-number, table-cases, build-refusal, query-refusal, message-refusal, list-refusal, peel-refusal};
-ghost use Rattle.tables.specs.Table.{AcceptedPairs};
+ghost use Rattle.model.specs.Refusal.{refused-3, refused-7, refused-8, refused-9, refused-12, board-short, first-number, table-cases, board-cases, message-cases};
+ghost use Rattle.model.specs.Refusal.{build-refusal, query-refusal, message-refusal, list-refusal, peel-refusal};
+ghost use Rattle.pairs.specs.Accepted.{AcceptedPairs};
 use model::Head;
 use model::Message;
 
@@ -26,13 +27,16 @@ fn short_board(head: Head, operators: &[u16], rides: &[u16], stamps: &[u32], ind
     if stamps.len() < places {
         return true;
     }
-    index.len() < m * (n + m)
+    if index.len() < m * (n + m) {
+        return true;
+    }
+    false
 }
 
 // 1 to 5 of a pair table; short tells whether a lent part is too short.
 fn table_number(head: Head, short: bool, operators: &[u16], rides: &[u16]) -> u16
     requires { ⌜ (short ≡ false → (pair-places head ≤ length (now operators)) × (pair-places head ≤ length (now rides))) ⌝ }
-    ensures { λ r. ⌜ r ≡ lowest-number (table-cases head short (now (operators .entry)) (now (rides .entry))) ⌝ }
+    ensures { λ r. ⌜ r ≡ first-number (table-cases head short (now (operators .entry)) (now (rides .entry))) ⌝ }
 {
     if 200 < head.operators {
         return 1;
@@ -46,7 +50,7 @@ fn table_number(head: Head, short: bool, operators: &[u16], rides: &[u16]) -> u1
     if head.operators * head.rides < head.pairs {
         return 4;
     }
-    if tables::ascending(head, operators, rides) {
+    if pairs::ascending(head, operators, rides) {
         return 0;
     }
     5
@@ -75,8 +79,8 @@ pub fn build_number(
 }
 
 // A number where it applies, else the one that comes after it.
-fn lowest(applies: bool, number: u16, after: u16) -> u16
-    ensures { λ r. ⌜ ((cs : List (ℕ × Bool)) → after ≡ lowest-number cs → r ≡ lowest-number ((number, applies) ∷ cs)) ⌝ }
+fn first(applies: bool, number: u16, after: u16) -> u16
+    ensures { λ r. ⌜ ((cs : List (ℕ × Bool)) → after ≡ first-number cs → r ≡ first-number ((number, applies) ∷ cs)) ⌝ }
 {
     if applies {
         return number;
@@ -90,18 +94,23 @@ pub fn query_number(head: Head, index: &[u16], alpha: u16, beta: u16, marks: &[u
 {
     let n = head.operators as usize;
     let m = head.rides as usize;
-    let zero = lowest(alpha == 0, 11, lowest(beta == 0, 11, 0));
-    let short = lowest(
+    let zero = first(alpha == 0, 11, first(beta == 0, 11, 0));
+    let short = first(
         index.len() < m * (n + m),
         3,
-        lowest(marks.len() < n + m, 3, zero),
+        first(marks.len() < n + m, 3, zero),
     );
-    lowest(200 < head.operators, 1, lowest(60 < head.rides, 2, short))
+    first(200 < head.operators, 1, first(60 < head.rides, 2, short))
 }
 
 // Whether a pair array is shorter than operators × rides, or the marks than operators + rides.
 fn short_peel(head: Head, operators: &[u16], rides: &[u16], marks: &[u16]) -> bool
-    ensures { λ r. ⌜ r ≡ (refused-3 (pair-places head) (now (operators .entry)) || refused-3 (pair-places head) (now (rides .entry)) || refused-3 (mark-places head) (now (marks .entry))) ⌝ }
+    ensures { λ r. ⌜
+        r
+        ≡
+        (refused-3 (pair-places head) (now (operators .entry)) || refused-3 (pair-places head) (now (rides .entry)) || refused-3 (mark-places head)
+        (now (marks .entry)))
+        ⌝ }
 {
     let n = head.operators as usize;
     let m = head.rides as usize;
@@ -159,34 +168,22 @@ pub fn peel_number(
     0
 }
 
-// Whether a listed pair has stamp 0.
-fn unstamped(head: Head, operators: &[u16], rides: &[u16], stamps: &[u32]) -> bool
-    requires { ⌜ AcceptedPairs head (now operators) (now rides) × (pair-places head ≤ length (now stamps)) ⌝ }
-    ensures { λ r. ⌜ ((index : List ℕ) → r ≡ refused-6 (lent head (now (operators .entry)) (now (rides .entry)) (now (stamps .entry)) index)) ⌝ }
-{
-    let m = head.rides;
-    let pairs = head.pairs as usize;
-    let mut i = 0;
-    while i < pairs {
-        let at = operators[i] * m + rides[i];
-        if stamps[at as usize] == 0 {
-            return true;
-        }
-        i += 1;
-    }
-    false
-}
-
 // 1 to 6 of a board; short tells whether a lent part is too short.
-fn stamped_number(head: Head, short: bool, operators: &[u16], rides: &[u16], stamps: &[u32]) -> u16
-    requires { ⌜ (short ≡ false → (pair-places head ≤ length (now operators)) × (pair-places head ≤ length (now rides)) × (pair-places head ≤ length (now stamps))) ⌝ }
-    ensures { λ r. ⌜ ((index : List ℕ) → r ≡ lowest-number (table-cases head short (now (operators .entry)) (now (rides .entry)) ++ (6, refused-6 (lent head (now (operators .entry)) (now (rides .entry)) (now (stamps .entry)) index)) ∷ [])) ⌝ }
+fn board_number(head: Head, short: bool, operators: &[u16], rides: &[u16], stamps: &[u32]) -> u16
+    requires { ⌜
+        (short ≡ false → (pair-places head ≤ length (now operators)) × (pair-places head ≤ length (now rides)) ×
+        (pair-places head ≤ length (now stamps)))
+        ⌝ }
+    ensures { λ r. ⌜
+        ((index : List ℕ) → r ≡ first-number
+        (board-cases (lent head (now (operators .entry)) (now (rides .entry)) (now (stamps .entry)) index) short))
+        ⌝ }
 {
     let number = table_number(head, short, operators, rides);
     if number != 0 {
         return number;
     }
-    if unstamped(head, operators, rides, stamps) {
+    if stamps::missing(head, operators, rides, stamps) {
         return 6;
     }
     0
@@ -194,7 +191,7 @@ fn stamped_number(head: Head, short: bool, operators: &[u16], rides: &[u16], sta
 
 // 7 to 9 of a message: 0 if it is valid.
 fn valid_number(head: Head, message: Message) -> u16
-    ensures { λ r. ⌜ r ≡ lowest-number ((7, refused-7 message) ∷ (8, refused-8 head message) ∷ (9, refused-9 (message .stamp)) ∷ []) ⌝ }
+    ensures { λ r. ⌜ r ≡ first-number ((7, refused-7 message) ∷ (8, refused-8 head message) ∷ (9, refused-9 (message .stamp)) ∷ []) ⌝ }
 {
     if message.kind == 0 {
         return 7;
@@ -214,23 +211,28 @@ fn valid_number(head: Head, message: Message) -> u16
     0
 }
 
-// Whether a message in range is not later than its pair's last: at equal stamps only a withdrawal of a listed pair is.
-fn not_later(head: Head, message: Message, operators: &[u16], rides: &[u16], stamps: &[u32]) -> bool
-    requires { ⌜ AcceptedPairs head (now operators) (now rides) × (pair-places head ≤ length (now stamps)) × (message .operator < head .operators) × (message .ride < head .rides) ⌝ }
-    ensures { λ r. ⌜ ((index : List ℕ) → r ≡ refused-10 (lent head (now (operators .entry)) (now (rides .entry)) (now (stamps .entry)) index) message) ⌝ }
+// 7 to 10 of a message, on a board to which 1 to 6 do not apply.
+pub fn entry_number(
+    head: Head,
+    message: Message,
+    operators: &[u16],
+    rides: &[u16],
+    stamps: &[u32],
+) -> u16
+    requires { ⌜ AcceptedPairs head (now operators) (now rides) × (pair-places head ≤ length (now stamps)) ⌝ }
+    ensures { λ r. ⌜
+        ((index : List ℕ) → r ≡ first-number
+        (message-cases (lent head (now (operators .entry)) (now (rides .entry)) (now (stamps .entry)) index) message))
+        ⌝ }
 {
-    let at = message.operator * head.rides + message.ride;
-    let last = stamps[at as usize];
-    if last < message.stamp {
-        return false;
+    let number = valid_number(head, message);
+    if number != 0 {
+        return number;
     }
-    if message.stamp < last {
-        return true;
+    if stamps::not_later(head, message, operators, rides, stamps) {
+        return 10;
     }
-    if message.kind != 2 {
-        return true;
-    }
-    !pairs::is_listed(head, message.operator, message.ride, operators, rides)
+    0
 }
 
 // 1 to 10.
@@ -245,18 +247,11 @@ pub fn message_number(
     ensures { λ r. ⌜ r ≡ message-refusal (lent head (now (operators .entry)) (now (rides .entry)) (now (stamps .entry)) (now (index .entry))) message ⌝ }
 {
     let short = short_board(head, operators, rides, stamps, index);
-    let number = stamped_number(head, short, operators, rides, stamps);
+    let number = board_number(head, short, operators, rides, stamps);
     if number != 0 {
         return number;
     }
-    let number_of_message = valid_number(head, message);
-    if number_of_message != 0 {
-        return number_of_message;
-    }
-    if not_later(head, message, operators, rides, stamps) {
-        return 10;
-    }
-    0
+    entry_number(head, message, operators, rides, stamps)
 }
 
 // Whether a part of a board is too short, or the answer list is shorter than the message list.
@@ -269,7 +264,12 @@ fn short_list(
     index: &[u16],
     answers: &[u16],
 ) -> bool
-    ensures { λ r. ⌜ r ≡ (board-short (lent head (now (operators .entry)) (now (rides .entry)) (now (stamps .entry)) (now (index .entry))) || refused-3 messages (now (answers .entry))) ⌝ }
+    ensures { λ r. ⌜
+        r
+        ≡
+        (board-short (lent head (now (operators .entry)) (now (rides .entry)) (now (stamps .entry)) (now (index .entry))) || refused-3 messages
+        (now (answers .entry)))
+        ⌝ }
 {
     if short_board(head, operators, rides, stamps, index) {
         return true;
@@ -287,8 +287,12 @@ pub fn list_number(
     index: &[u16],
     answers: &[u16],
 ) -> u16
-    ensures { λ r. ⌜ r ≡ list-refusal (lent head (now (operators .entry)) (now (rides .entry)) (now (stamps .entry)) (now (index .entry))) messages (now (answers .entry)) ⌝ }
+    ensures { λ r. ⌜
+        r
+        ≡ list-refusal (lent head (now (operators .entry)) (now (rides .entry)) (now (stamps .entry)) (now (index .entry))) messages
+        (now (answers .entry))
+        ⌝ }
 {
     let short = short_list(head, messages, operators, rides, stamps, index, answers);
-    stamped_number(head, short, operators, rides, stamps)
+    board_number(head, short, operators, rides, stamps)
 }

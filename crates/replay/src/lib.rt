@@ -1,16 +1,90 @@
 // Replays the calls on standard input, and writes what each answered and left (reference/README.md).
-use board::message::Delivered;
-use frames::Parts;
+use messages::Delivered;
 use model::Head;
 use model::Message;
 
-// The head of a frame.
-fn head(frame: &[u8]) -> Head {
+// The head of a frame, with so many pairs by now.
+fn head_now(frame: &[u8], pairs: u16) -> Head {
     Head {
         operators: frames::word(frame, 1),
         rides: frames::word(frame, 2),
-        pairs: frames::word(frame, 3),
+        pairs,
     }
+}
+
+fn head(frame: &[u8]) -> Head {
+    head_now(frame, frames::word(frame, 3))
+}
+
+// The checksum of a frame's head, with so many pairs by now.
+fn head_checksum(frame: &[u8], pairs: u16) -> u64 {
+    let words = [frames::word(frame, 1), frames::word(frame, 2), pairs];
+    frames::checksum(0, 3, &words)
+}
+
+// How many places of each part a call lends.
+struct Lent {
+    operators: usize,
+    rides: usize,
+    stamps: usize,
+    index: usize,
+    marks: usize,
+    answers: usize,
+}
+
+fn build(
+    frame: &[u8],
+    lent: Lent,
+    operators: &mut [u16],
+    rides: &mut [u16],
+    stamps: &mut [u32],
+    index: &mut [u16],
+) -> u64 {
+    let start = frames::long(frame, 4);
+    let code = board::board_build(
+        head(frame),
+        frames::first(operators, lent.operators),
+        frames::first(rides, lent.rides),
+        start,
+        frames::first_longs(stamps, lent.stamps),
+        frames::first(index, lent.index),
+    );
+    frames::print(code);
+    0
+}
+
+fn query(frame: &[u8], lent: Lent, index: &[u16], marks: &mut [u16]) -> u64 {
+    let alpha = frames::word(frame, 4);
+    let beta = frames::word(frame, 5);
+    let i = frames::least(lent.index, index.len());
+    let m = frames::least(lent.marks, marks.len());
+    let counts = board::board_query(head(frame), &index[0..i], alpha, beta, &mut marks[0..m]);
+    frames::print(counts.code);
+    frames::print(counts.operators);
+    frames::print(counts.rides);
+    0
+}
+
+fn peel(frame: &[u8], lent: Lent, operators: &[u16], rides: &[u16], marks: &mut [u16]) -> u64 {
+    let alpha = frames::word(frame, 4);
+    let beta = frames::word(frame, 5);
+    let steps = frames::word(frame, 6);
+    let o = frames::least(lent.operators, operators.len());
+    let r = frames::least(lent.rides, rides.len());
+    let m = frames::least(lent.marks, marks.len());
+    let peeled = board::board_peel(
+        head(frame),
+        &operators[0..o],
+        &rides[0..r],
+        &mut marks[0..m],
+        alpha,
+        beta,
+        steps,
+    );
+    frames::print(peeled.code);
+    frames::print(peeled.settled);
+    frames::print(peeled.steps);
+    0
 }
 
 fn message_at(frame: &[u8], at: usize) -> Message {
@@ -20,96 +94,6 @@ fn message_at(frame: &[u8], at: usize) -> Message {
         ride: frames::word(frame, frames::past(at, 2)),
         stamp: frames::long(frame, frames::past(at, 3)),
     }
-}
-
-// Writes the checksum of a frame's head with so many pairs, and of a board.
-fn print_board(
-    frame: &[u8],
-    pairs: u16,
-    operators: &[u16],
-    rides: &[u16],
-    stamps: &[u32],
-    index: &[u16],
-    answers: &[u16],
-) {
-    let words = [frames::word(frame, 1), frames::word(frame, 2), pairs];
-    let sum = frames::checksum(0, &words);
-    let board = frames::checksum_board(sum, operators, rides, stamps, index);
-    frames::print_checksum(frames::checksum(board, answers));
-}
-
-fn query(frame: &[u8], index: &[u16], marks: &mut [u16]) {
-    let alpha = frames::word(frame, 4);
-    let beta = frames::word(frame, 5);
-    let counts = board::board_query(head(frame), index, alpha, beta, marks);
-    frames::print(counts.code);
-    frames::print(counts.operators);
-    frames::print(counts.rides);
-    frames::print_checksum(frames::checksum(frames::checksum(0, index), marks));
-}
-
-fn lend_query(frame: &[u8], index: &mut [u16], marks: &mut [u16]) {
-    let marks_at = frames::load(frame, 6, index);
-    frames::load(frame, marks_at, marks);
-    let i = frames::length(frame, 6, index.len());
-    let m = frames::length(frame, marks_at, marks.len());
-    query(frame, &index[0..i], &mut marks[0..m]);
-}
-
-fn peel(frame: &[u8], operators: &[u16], rides: &[u16], marks: &mut [u16]) {
-    let alpha = frames::word(frame, 4);
-    let beta = frames::word(frame, 5);
-    let steps = frames::word(frame, 6);
-    let peeled = board::board_peel(head(frame), operators, rides, marks, alpha, beta, steps);
-    frames::print(peeled.code);
-    frames::print(peeled.settled);
-    frames::print(peeled.steps);
-    let pairs = frames::checksum(frames::checksum(0, operators), rides);
-    frames::print_checksum(frames::checksum(pairs, marks));
-}
-
-fn lend_peel(frame: &[u8], operators: &mut [u16], rides: &mut [u16], marks: &mut [u16]) {
-    let rides_at = frames::load(frame, 7, operators);
-    let marks_at = frames::load(frame, rides_at, rides);
-    frames::load(frame, marks_at, marks);
-    let o = frames::length(frame, 7, operators.len());
-    let r = frames::length(frame, rides_at, rides.len());
-    let m = frames::length(frame, marks_at, marks.len());
-    peel(frame, &operators[0..o], &rides[0..r], &mut marks[0..m]);
-}
-
-fn build(
-    frame: &[u8],
-    operators: &mut [u16],
-    rides: &mut [u16],
-    stamps: &mut [u32],
-    index: &mut [u16],
-) {
-    let start = frames::long(frame, 4);
-    let code = board::board_build(head(frame), operators, rides, start, stamps, index);
-    frames::print(code);
-    frames::print_checksum(frames::checksum_board(0, operators, rides, stamps, index));
-}
-
-fn message(
-    frame: &[u8],
-    operators: &mut [u16],
-    rides: &mut [u16],
-    stamps: &mut [u32],
-    index: &mut [u16],
-) {
-    let delivered = deliver_at(
-        frame,
-        4,
-        frames::word(frame, 3),
-        operators,
-        rides,
-        stamps,
-        index,
-    );
-    frames::print(delivered.code);
-    frames::print(delivered.differ);
-    print_board(frame, delivered.pairs, operators, rides, stamps, index, &[]);
 }
 
 // Delivers the message at a place of the frame, to a board that has so many pairs by now.
@@ -122,82 +106,36 @@ fn deliver_at(
     stamps: &mut [u32],
     index: &mut [u16],
 ) -> Delivered {
-    let now = Head {
-        operators: frames::word(frame, 1),
-        rides: frames::word(frame, 2),
-        pairs,
-    };
-    board::message::deliver(now, message_at(frame, at), operators, rides, stamps, index)
+    let now = head_now(frame, pairs);
+    messages::deliver(now, message_at(frame, at), operators, rides, stamps, index)
 }
 
-// What a list call answers, and the count of pairs after it.
-struct Listed {
-    code: u16,
-    pairs: u16,
-}
-
-// A message list is its messages one after another, once its own number is 0.
-fn messages(
+fn message(
     frame: &[u8],
+    lent: Lent,
     operators: &mut [u16],
     rides: &mut [u16],
     stamps: &mut [u32],
     index: &mut [u16],
-    answers: &mut [u16],
-) {
-    let listed = list(frame, operators, rides, stamps, index, answers);
-    frames::print(listed.code);
-    print_board(
+) -> u64 {
+    let delivered = deliver_at(
         frame,
-        listed.pairs,
-        operators,
-        rides,
-        stamps,
-        index,
-        answers,
+        4,
+        frames::word(frame, 3),
+        frames::first(operators, lent.operators),
+        frames::first(rides, lent.rides),
+        frames::first_longs(stamps, lent.stamps),
+        frames::first(index, lent.index),
     );
+    frames::print(delivered.code);
+    frames::print(delivered.differ);
+    head_checksum(frame, delivered.pairs)
 }
 
-fn list(
-    frame: &[u8],
-    operators: &mut [u16],
-    rides: &mut [u16],
-    stamps: &mut [u32],
-    index: &mut [u16],
-    answers: &mut [u16],
-) -> Listed {
-    let count = frames::word(frame, 4) as usize;
-    let code = refusals::list_number(head(frame), count, operators, rides, stamps, index, answers);
-    let pairs = after_refusal(frame, code, operators, rides, stamps, index, answers);
-    Listed { code, pairs }
-}
-
-fn after_refusal(
-    frame: &[u8],
-    code: u16,
-    operators: &mut [u16],
-    rides: &mut [u16],
-    stamps: &mut [u32],
-    index: &mut [u16],
-    answers: &mut [u16],
-) -> u16 {
-    if code != 0 {
-        return frames::word(frame, 3);
-    }
-    let count = frames::length(frame, 4, answers.len());
-    deliver_all(
-        frame,
-        operators,
-        rides,
-        stamps,
-        index,
-        &mut answers[0..count],
-    )
-}
-
-// Delivers the messages of a list one after another, an answer for each, and answers the count of pairs after them.
+// Delivers so many messages of a list one after another, an answer for each, and answers the count of pairs after them.
 fn deliver_all(
     frame: &[u8],
+    count: usize,
     operators: &mut [u16],
     rides: &mut [u16],
     stamps: &mut [u32],
@@ -206,144 +144,152 @@ fn deliver_all(
 ) -> u16 {
     let mut pairs = frames::word(frame, 3);
     let mut at = 5;
-    let mut i = 0;
-    while i < answers.len() {
+    for i in 0..count {
         let delivered = deliver_at(frame, at, pairs, operators, rides, stamps, index);
-        answers[i] = delivered.code;
+        frames::store(answers, i, delivered.code);
         pairs = delivered.pairs;
         at = frames::past(at, 5);
-        i += 1;
     }
     pairs
 }
 
-// Where the parts of a call on the whole board begin in its frame.
+// A message list is its messages one after another, once its own number is 0. Answers the count of pairs after it.
+fn list(
+    frame: &[u8],
+    operators: &mut [u16],
+    rides: &mut [u16],
+    stamps: &mut [u32],
+    index: &mut [u16],
+    answers: &mut [u16],
+) -> u16 {
+    let count = frames::word(frame, 4) as usize;
+    let code = refusals::list_number(head(frame), count, operators, rides, stamps, index, answers);
+    frames::print(code);
+    deliver_all(
+        frame,
+        frames::only(code == 0, count),
+        operators,
+        rides,
+        stamps,
+        index,
+        answers,
+    )
+}
+
+fn messages(
+    frame: &[u8],
+    lent: Lent,
+    operators: &mut [u16],
+    rides: &mut [u16],
+    stamps: &mut [u32],
+    index: &mut [u16],
+    answers: &mut [u16],
+) -> u64 {
+    let pairs = list(
+        frame,
+        frames::first(operators, lent.operators),
+        frames::first(rides, lent.rides),
+        frames::first_longs(stamps, lent.stamps),
+        frames::first(index, lent.index),
+        frames::first(answers, lent.answers),
+    );
+    head_checksum(frame, pairs)
+}
+
+// Makes the call of a frame, writes its answer's numbers, and answers the checksum of the head where a call changes it, or 0.
+fn call(
+    frame: &[u8],
+    lent: Lent,
+    operators: &mut [u16; 12300],
+    rides: &mut [u16; 12300],
+    stamps: &mut [u32; 12300],
+    index: &mut [u16; 16000],
+    marks: &mut [u16; 270],
+    answers: &mut [u16; 70],
+) -> u64 {
+    match frames::word(frame, 0) {
+        1 => build(frame, lent, operators, rides, stamps, index),
+        2 => query(frame, lent, index, marks),
+        3 => peel(frame, lent, operators, rides, marks),
+        4 => message(frame, lent, operators, rides, stamps, index),
+        _ => messages(frame, lent, operators, rides, stamps, index, answers),
+    }
+}
+
+// The checksum with all that was lent more.
+fn checksum(
+    head: u64,
+    lent: Lent,
+    operators: &[u16; 12300],
+    rides: &[u16; 12300],
+    stamps: &[u32; 12300],
+    index: &[u16; 16000],
+    marks: &[u16; 270],
+    answers: &[u16; 70],
+) -> u64 {
+    let o = frames::checksum(head, lent.operators, operators);
+    let r = frames::checksum(o, lent.rides, rides);
+    let s = frames::checksum_longs(r, lent.stamps, stamps);
+    let i = frames::checksum(s, lent.index, index);
+    let m = frames::checksum(i, lent.marks, marks);
+    frames::checksum(m, lent.answers, answers)
+}
+
+// Where the parts of a call begin in its frame.
 fn parts_at(frame: &[u8]) -> usize {
     match frames::word(frame, 0) {
         1 => 6,
+        2 => 6,
+        3 => 7,
         4 => 9,
         _ => frames::past(5, 5 * (frames::word(frame, 4) as usize)),
     }
 }
 
-fn board_call(
+// Sets the memory as the parts of a frame say. A query has no pairs, a peel no index, and neither has stamps; they alone have marks.
+fn load(
     frame: &[u8],
-    operators: &mut [u16],
-    rides: &mut [u16],
-    stamps: &mut [u32],
-    index: &mut [u16],
-    answers: &mut [u16],
-) {
-    match frames::word(frame, 0) {
-        1 => build(frame, operators, rides, stamps, index),
-        4 => message(frame, operators, rides, stamps, index),
-        _ => messages(frame, operators, rides, stamps, index, answers),
+    operators: &mut [u16; 12300],
+    rides: &mut [u16; 12300],
+    stamps: &mut [u32; 12300],
+    index: &mut [u16; 16000],
+    marks: &mut [u16; 270],
+    answers: &mut [u16; 70],
+) -> Lent {
+    let kind = frames::word(frame, 0);
+    let marked = kind == 2 || kind == 3;
+    let o = frames::load(frame, parts_at(frame), kind != 2, operators);
+    let r = frames::load(frame, o.next, kind != 2, rides);
+    let s = frames::load_longs(frame, r.next, !marked, stamps);
+    let i = frames::load(frame, s.next, kind != 3, index);
+    let m = frames::load(frame, i.next, marked, marks);
+    let a = frames::load(frame, m.next, kind == 5, answers);
+    Lent {
+        operators: o.places,
+        rides: r.places,
+        stamps: s.places,
+        index: i.places,
+        marks: m.places,
+        answers: a.places,
     }
 }
 
-fn lend_parts(
-    frame: &[u8],
-    parts: Parts,
-    operators: &mut [u16],
-    rides: &mut [u16],
-    stamps: &mut [u32],
-    index: &mut [u16],
-    answers: &mut [u16],
-) {
-    let o = frames::length(frame, parts.operators, operators.len());
-    let r = frames::length(frame, parts.rides, rides.len());
-    let s = frames::length(frame, parts.stamps, stamps.len());
-    let i = frames::length(frame, parts.index, index.len());
-    board_call(
-        frame,
-        &mut operators[0..o],
-        &mut rides[0..r],
-        &mut stamps[0..s],
-        &mut index[0..i],
-        answers,
-    );
-}
-
-fn lend_board(
-    frame: &[u8],
-    operators: &mut [u16],
-    rides: &mut [u16],
-    stamps: &mut [u32],
-    index: &mut [u16],
-    answers: &mut [u16],
-) {
-    let parts = frames::load_board(frame, parts_at(frame), operators, rides, stamps, index);
-    let end = parts.end;
-    frames::load(frame, end, answers);
-    let n = frames::length(frame, end, answers.len());
-    lend_parts(
-        frame,
-        parts,
-        operators,
-        rides,
-        stamps,
-        index,
-        &mut answers[0..n],
-    );
-}
-
-// Makes the call of a frame, and answers whether it has one.
-fn call(
-    frame: &[u8],
-    operators: &mut [u16],
-    rides: &mut [u16],
-    stamps: &mut [u32],
-    index: &mut [u16],
-    marks: &mut [u16],
-    answers: &mut [u16],
-) -> bool {
-    match frames::word(frame, 0) {
-        0 => return false,
-        2 => lend_query(frame, index, marks),
-        3 => lend_peel(frame, operators, rides, marks),
-        _ => lend_board(frame, operators, rides, stamps, index, answers),
-    }
-    true
-}
-
+// Replays a frame, and writes its line.
 fn step(
-    buffer: &mut [u8],
-    operators: &mut [u16],
-    rides: &mut [u16],
-    stamps: &mut [u32],
-    index: &mut [u16],
-    marks: &mut [u16],
-    answers: &mut [u16],
-) -> bool {
-    let bytes = frames::next(buffer);
-    call(
-        &buffer[0..bytes],
-        operators,
-        rides,
-        stamps,
-        index,
-        marks,
-        answers,
-    )
-}
-
-// A stream has fewer calls than the bound.
-fn stream(
-    buffer: &mut [u8],
-    operators: &mut [u16],
-    rides: &mut [u16],
-    stamps: &mut [u32],
-    index: &mut [u16],
-    marks: &mut [u16],
-    answers: &mut [u16],
+    frame: &[u8],
+    operators: &mut [u16; 12300],
+    rides: &mut [u16; 12300],
+    stamps: &mut [u32; 12300],
+    index: &mut [u16; 16000],
+    marks: &mut [u16; 270],
+    answers: &mut [u16; 70],
 ) {
-    let mut left = 1000000u32;
-    while left > 0 && step(buffer, operators, rides, stamps, index, marks, answers) {
-        left -= 1;
-    }
+    let lent = load(frame, operators, rides, stamps, index, marks, answers);
+    let head = call(frame, lent, operators, rides, stamps, index, marks, answers);
+    frames::print_checksum(checksum(head, lent, operators, rides, stamps, index, marks, answers));
 }
 
-// Replays the stream, with memory that stays from call to call.
+// Replays the stream, with memory that stays from call to call. A stream has fewer calls than the bound.
 pub fn run() {
     let mut buffer = [0u8; 131070];
     let mut operators = [0u16; 12300];
@@ -352,13 +298,19 @@ pub fn run() {
     let mut index = [0u16; 16000];
     let mut marks = [0u16; 270];
     let mut answers = [0u16; 70];
-    stream(
-        &mut buffer,
-        &mut operators,
-        &mut rides,
-        &mut stamps,
-        &mut index,
-        &mut marks,
-        &mut answers,
-    );
+    for _ in 0..1000000u32 {
+        let bytes = frames::next(&mut buffer);
+        if bytes == 0 {
+            return;
+        }
+        step(
+            &buffer[0..bytes],
+            &mut operators,
+            &mut rides,
+            &mut stamps,
+            &mut index,
+            &mut marks,
+            &mut answers,
+        );
+    }
 }

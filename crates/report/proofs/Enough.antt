@@ -8,13 +8,13 @@ use borrow.Author.Tests.{lt-ltb, le-ltb, ne-eqb}
 use lib.ListN.{length, take}
 use lib.Seq.{length-take-le, take-all, getD-take}
 use Rattle.model.specs.declared.Head.{Head}
-use Rattle.model.specs.Refusal.{lowest-number}
+use Rattle.model.specs.Refusal.{first-number}
 use Rattle.report.specs.Program.{word, head, size-cases, cover-text, EnoughRead}
 use Rattle.report.proofs.Sizes.{few-pairs, text-refused}
 
 -- the number of a refusal for every such length
-refused-long : (h : Head) → (k : ℕ) × ((size : ℕ) → 48011 ≤ size → lowest-number (size-cases size h) ≡ suc k)
-unfolding lowest-number
+refused-long : (h : Head) → (k : ℕ) × ((size : ℕ) → 48011 ≤ size → first-number (size-cases size h) ≡ suc k)
+unfolding first-number
 refused-long h =
     elim (decLt 200 (h .operators)) [
       | yes a ↦ (0, λ size l. simp (le-ltb size 6 (omega arith), lt-ltb _ _ a))
@@ -45,7 +45,7 @@ module _ (input : List ℕ) where
       let r = refused-long (head input) in
       sym
       (text-refused (take 48011 input) (suc (r .0)) (λ e. omega arith)
-      (sym (r .1 48011 (omega arith)) ∙ ap₂ (λ (size : ℕ) (h : Head). lowest-number (size-cases size h)) (sym (length-take-le 48011 input l)) (sym head-take))) ∙
+      (sym (r .1 48011 (omega arith)) ∙ ap₂ (λ (size : ℕ) (h : Head). first-number (size-cases size h)) (sym (length-take-le 48011 input l)) (sym head-take))) ∙
       text-refused input (suc (r .0)) (λ e. omega arith) (sym (r .1 (length input) l))
 
 pub enough-read : EnoughRead

@@ -12,7 +12,7 @@ use Rattle.model.specs.declared.Head.{Head}
 use Rattle.model.specs.Count.{count, values}
 use Rattle.model.specs.Graph.{Graph, nodes, everybody, marked, cover, level, row}
 use Rattle.model.specs.Layout.{graph}
-use Rattle.model.specs.Refusal.{refused-5, refused-11, lowest-number}
+use Rattle.model.specs.Refusal.{refused-5, refused-11, first-number}
 use Rattle.model.proofs.Count.{test-ext, count-ext, length-values, getD-values}
 use Rattle.model.proofs.Cover.{degree-operator-le}
 use Rattle.model.proofs.Level.{level-largest, level-in, level-laws}
@@ -84,13 +84,13 @@ module _ (h : Head) (operators rides : List ℕ) (α β : ℕ) (a : 1 ≤ α) (b
 
 module _ (h : Head) (operators rides : List ℕ) (α β : ℕ) where
   pub table-5 : refused-5 h operators rides ≡ true → refusal-line 5 ≡ table-text h operators rides α β
-  unfolding lowest-number
-  table-5 e = rw (e, lowest-number)
+  unfolding first-number
+  table-5 e = rw (e, first-number)
 
   pub table-11 : refused-5 h operators rides ≡ false → refused-11 α β ≡ true → refusal-line 11 ≡ table-text h operators rides α β
-  unfolding lowest-number
-  table-11 e f = rw (e, f, lowest-number)
+  unfolding first-number
+  table-11 e f = rw (e, f, first-number)
 
   pub table-cover : refused-5 h operators rides ≡ false → refused-11 α β ≡ false → cover-lines h operators rides α β ≡ table-text h operators rides α β
-  unfolding lowest-number
-  table-cover e f = rw (e, f, lowest-number)
+  unfolding first-number
+  table-cover e f = rw (e, f, first-number)

@@ -9,7 +9,7 @@ use Rattle.model.specs.declared.Head.{Head}
 use Rattle.model.specs.Count.{values}
 use Rattle.model.specs.Graph.{marked, cover, level}
 use Rattle.model.specs.Layout.{over, graph}
-use Rattle.model.specs.Refusal.{refused-1, refused-2, refused-4, refused-5, refused-11, lowest-number}
+use Rattle.model.specs.Refusal.{refused-1, refused-2, refused-4, refused-5, refused-11, first-number}
 use Rattle.report.specs.Text.{refusal-line, report-text}
 
 -- the 16-bit little-endian word at place i of the input
@@ -68,7 +68,7 @@ printed (suc k) lines = refusal-line (suc k)
 unfoldable pub cover-refusal : List ℕ → ℕ
 cover-refusal input =
     let h = head input in
-    lowest-number
+    first-number
     (size-cases (length input) h ++
     content-cases h (operators input (h .pairs)) (rides input (h .pairs)) (alpha input (h .pairs)) (beta input (h .pairs)))
 

@@ -1,4 +1,4 @@
--- Document 01, The program `cover`: what the functions behind it require and ensure, of text that is written, a row of levels, and sizes.
+-- Inner contracts: what the functions behind `cover` require and ensure, of text that is written, a row of levels, and sizes.
 use mathlib.Core.Path.{_≡_}
 use mathlib.Core.Bool.{Bool}
 use mathlib.Core.List.{List}
@@ -7,7 +7,7 @@ use lib.Dec.{leb}
 use lib.ListN.{length, getD}
 use lib.Seq.{sets}
 use Rattle.model.specs.declared.Head.{Head}
-use Rattle.model.specs.Refusal.{lowest-number}
+use Rattle.model.specs.Refusal.{first-number}
 use Rattle.report.specs.Program.{operators, rides, alpha, beta, content-cases, cover-lines, printed}
 
 -- the text was stored from the place at on and ends before the place end, at most `most` bytes further; every other byte stays
@@ -33,7 +33,7 @@ pub record Sizes (h : Head) : Type 0 where
 -- the output for a pair table, once its sizes are checked
 abbrev pub table-text : Head → List ℕ → List ℕ → ℕ → ℕ → List ℕ
 table-text h operators rides α β =
-    printed (lowest-number (content-cases h operators rides α β)) (cover-lines h operators rides α β)
+    printed (first-number (content-cases h operators rides α β)) (cover-lines h operators rides α β)
 
 -- the output for an input with the head h, once the sizes are checked
 abbrev pub input-text : List ℕ → Head → List ℕ

@@ -3,7 +3,7 @@ ghost use mathlib.Core.Path.{_≡_};
 ghost use Prim.Native.Nat.{_+_, _*_, _≤_, _<_};
 ghost use lib.ListN.{length};
 ghost use Rattle.model.specs.Layout.{over};
-ghost use Rattle.model.specs.Refusal.{lowest-number};
+ghost use Rattle.model.specs.Refusal.{first-number};
 ghost use Rattle.report.specs.Program.{word, words, head, size-cases};
 use model::Head;
 
@@ -42,7 +42,7 @@ pub fn head_of(input: &[u8]) -> Head
 // The number of the first check that refuses, of those after the least length, or 0.
 fn head_refusal(size: usize, h: Head) -> u16
     requires { ⌜ 6 ≤ size ⌝ }
-    ensures { λ r. ⌜ r ≡ lowest-number (size-cases size h) ⌝ }
+    ensures { λ r. ⌜ r ≡ first-number (size-cases size h) ⌝ }
 {
     if 200 < h.operators {
         return 1;
@@ -61,7 +61,7 @@ fn head_refusal(size: usize, h: Head) -> u16
 
 // The number of the first check of the sizes that refuses, or 0.
 pub fn size_refusal(input: &[u8]) -> u16
-    ensures { λ r. ⌜ r ≡ lowest-number (size-cases (length (now (input .entry))) (head (now (input .entry)))) ⌝ }
+    ensures { λ r. ⌜ r ≡ first-number (size-cases (length (now (input .entry))) (head (now (input .entry)))) ⌝ }
 {
     if input.len() < 6 {
         return 13;

@@ -7,7 +7,7 @@ ghost use Prim.Native.Nat.{ℕ, _+_, _*_, _≤_};
 ghost use lib.ListN.{length, getD};
 ghost use Rattle.model.specs.Graph.{row as levels-row};
 ghost use Rattle.model.specs.Layout.{mark-places, graph};
-ghost use Rattle.tables.specs.Table.{AcceptedPairs};
+ghost use Rattle.pairs.specs.Accepted.{AcceptedPairs};
 ghost use Rattle.report.specs.Program.{cover-lines, Reported};
 ghost use Rattle.report.specs.Write.{Wrote, Sizes, table-text, input-text};
 use model::Head;
@@ -19,7 +19,7 @@ fn fill_levels(h: Head, operators: &[u16], rides: &[u16], alpha: u16, row: &mut 
     ensures { λ _. ⌜ now (row .exit) ≡ levels-row (graph h (now (operators .entry)) (now (rides .entry))) alpha ⌝ }
 {
     if alpha <= h.rides {
-        levels::row_of(h, operators, rides, alpha as u8, row);
+        row::row_of(h, operators, rides, alpha as u8, row);
     }
 }
 
@@ -53,7 +53,7 @@ fn answer_table(
     requires { ⌜ Sizes h × (length (now operators) ≡ h .pairs) × (length (now rides) ≡ h .pairs) × (5490 ≤ length (now out)) ⌝ }
     ensures { λ r. ⌜ Wrote (now (out .entry)) 0 (table-text h (now (operators .entry)) (now (rides .entry)) alpha beta) 5490 (now (out .exit)) r ⌝ }
 {
-    if !tables::ascending(h, operators, rides) {
+    if !pairs::ascending(h, operators, rides) {
         return text::put_refusal(out, 0, 5);
     }
     if alpha == 0 {

@@ -96,7 +96,11 @@ fn put_members(
     beta: u16,
 ) -> usize
     requires { ⌜ (length (now name) ≤ 9) × (nodes ≤ 200) × (first + nodes ≤ length (now levels)) × (at + 21 * nodes ≤ length (now out)) ⌝ }
-    ensures { λ r. ⌜ Wrote (now (out .entry)) at (member-lines (now (name .entry)) (member-at beta (now (levels .entry)) first) (level-at (now (levels .entry)) first) nodes) (21 * nodes) (now (out .exit)) r ⌝ }
+    ensures { λ r. ⌜
+        Wrote (now (out .entry)) at
+        (member-lines (now (name .entry)) (member-at beta (now (levels .entry)) first) (level-at (now (levels .entry)) first) nodes) (21 * nodes)
+        (now (out .exit)) r
+        ⌝ }
 {
     let mut end = at;
     let mut i = 0;
@@ -134,7 +138,11 @@ pub fn put_cover(
     levels: &[u16],
 ) -> usize
     requires { ⌜ (operators ≤ 200) × (rides ≤ 60) × (operators + rides ≤ length (now levels)) × (at + 5490 ≤ length (now out)) ⌝ }
-    ensures { λ r. ⌜ Wrote (now (out .entry)) at (report-text alpha beta operators rides (member-at beta (now (levels .entry)) 0) (level-at (now (levels .entry)) 0)) 5490 (now (out .exit)) r ⌝ }
+    ensures { λ r. ⌜
+        Wrote (now (out .entry)) at
+        (report-text alpha beta operators rides (member-at beta (now (levels .entry)) 0) (level-at (now (levels .entry)) 0)) 5490 (now (out .exit))
+        r
+        ⌝ }
 {
     let n = operators as usize;
     let m = rides as usize;

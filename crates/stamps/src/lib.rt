@@ -1,44 +1,38 @@
-// Document 01, Build: the stamps of the listed pairs are set to the starting stamp and the others to 0.
+// The stamps: the place of a pair's stamp, the stamps of a build, whether a listed pair has none, whether a message is later than its pair's last, and
+// the store of a taken message.
 ghost use mathlib.Core.Path.{_≡_};
+ghost use mathlib.Core.List.{List};
 ghost use Prim.Native.Nat.{ℕ, _*_, _<_, _≤_};
-ghost use lib.ListN.{length, getD, drop};
-ghost use Rattle.model.specs.Layout.{pair-places, over, listed, graph};
-ghost use Rattle.model.specs.Calls.{start-stamps};
-ghost use Rattle.tables.specs.Table.{InRange, AcceptedPairs};
-ghost use Rattle.stamps.specs.Stamps.{Stamped};
+ghost use lib.ListN.{length, getD, set};
+ghost use Rattle.model.specs.Layout.{lent, pair-places, over, listed, graph};
+ghost use Rattle.model.specs.Contents.{stamp-place};
+ghost use Rattle.model.specs.Refusal.{refused-6, refused-10};
+ghost use Rattle.pairs.specs.Accepted.{AcceptedPairs};
+ghost use Rattle.stamps.specs.Stamps.{Stamped, start-stamps};
 use model::Head;
+use model::Message;
 
-// Zeroes the stamps of the first places.
-fn forget(stamps: &mut [u32], places: usize)
-    requires { ⌜ places ≤ length (now stamps) ⌝ }
-    ensures { λ _. ⌜ ((k : ℕ) → k < places → getD (now (stamps .exit)) k 0 ≡ 0) × (drop places (now (stamps .exit)) ≡ drop places (now (stamps .entry))) ⌝ }
+// The place of a pair's stamp.
+fn place(head: Head, operator: u16, ride: u16) -> usize
+    ensures { λ r. ⌜ r ≡ stamp-place head operator ride ⌝ }
 {
-    let mut k = 0;
-    while k < places {
-        stamps[k] = 0;
-        k += 1;
-    }
+    operator as usize * head.rides as usize + ride as usize
 }
 
-// Stamps the listed pairs of n operators and m rides, where all stamps are 0.
-fn stamp_pairs(
-    operators: &[u16],
-    rides: &[u16],
-    pairs: usize,
-    n: usize,
-    m: usize,
-    start: u32,
-    stamps: &mut [u32],
-)
-    requires { ⌜ (pairs ≤ length (now operators)) × (pairs ≤ length (now rides)) × (n * m ≤ length (now stamps)) × InRange pairs n m (now operators) (now rides) ⌝ }
-    requires { ⌜ ((k : ℕ) → k < n * m → getD (now stamps) k 0 ≡ 0) ⌝ }
-    ensures { λ _. ⌜ Stamped (listed pairs (now (operators .entry)) (now (rides .entry))) n m start (now (stamps .entry)) (now (stamps .exit)) ⌝ }
+// Stamps the listed pairs, where all stamps are 0.
+fn stamp_pairs(head: Head, operators: &[u16], rides: &[u16], start: u32, stamps: &mut [u32])
+    requires { ⌜ AcceptedPairs head (now operators) (now rides) × (pair-places head ≤ length (now stamps)) ⌝ }
+    requires { ⌜ ((k : ℕ) → k < pair-places head → getD (now stamps) k 0 ≡ 0) ⌝ }
+    ensures { λ _. ⌜
+        Stamped (listed (head .pairs) (now (operators .entry)) (now (rides .entry))) (head .operators) (head .rides) start (now (stamps .entry))
+        (now (stamps .exit))
+        ⌝ }
 {
+    let pairs = head.pairs as usize;
     let mut k = 0;
     while k < pairs {
-        let u = operators[k] as usize;
-        let v = rides[k] as usize;
-        stamps[u * m + v] = start;
+        let at = place(head, operators[k], rides[k]);
+        stamps[at] = start;
         k += 1;
     }
 }
@@ -48,9 +42,61 @@ pub fn fill(head: Head, operators: &[u16], rides: &[u16], start: u32, stamps: &m
     requires { ⌜ AcceptedPairs head (now operators) (now rides) × (pair-places head ≤ length (now stamps)) ⌝ }
     ensures { λ _. ⌜ now (stamps .exit) ≡ over (start-stamps (graph head (now (operators .entry)) (now (rides .entry))) start) (now (stamps .entry)) ⌝ }
 {
-    let n = head.operators as usize;
-    let m = head.rides as usize;
+    let places = head.operators as usize * head.rides as usize;
+    words::fill_stamps(stamps, 0, places, 0);
+    stamp_pairs(head, operators, rides, start, stamps);
+}
+
+// Whether a listed pair has stamp 0.
+pub fn missing(head: Head, operators: &[u16], rides: &[u16], stamps: &[u32]) -> bool
+    requires { ⌜ AcceptedPairs head (now operators) (now rides) × (pair-places head ≤ length (now stamps)) ⌝ }
+    ensures { λ r. ⌜ ((index : List ℕ) → r ≡ refused-6 (lent head (now (operators .entry)) (now (rides .entry)) (now (stamps .entry)) index)) ⌝ }
+{
     let pairs = head.pairs as usize;
-    forget(stamps, n * m);
-    stamp_pairs(operators, rides, pairs, n, m, start, stamps);
+    let mut i = 0;
+    while i < pairs {
+        let at = place(head, operators[i], rides[i]);
+        if stamps[at] == 0 {
+            return true;
+        }
+        i += 1;
+    }
+    false
+}
+
+// Whether a message in range is not later than its pair's last: at equal stamps only a withdrawal of a listed pair is.
+pub fn not_later(
+    head: Head,
+    message: Message,
+    operators: &[u16],
+    rides: &[u16],
+    stamps: &[u32],
+) -> bool
+    requires { ⌜
+        AcceptedPairs head (now operators) (now rides) × (pair-places head ≤ length (now stamps)) × (message .operator < head .operators)
+        × (message .ride < head .rides)
+        ⌝ }
+    ensures { λ r. ⌜ ((index : List ℕ) → r ≡ refused-10 (lent head (now (operators .entry)) (now (rides .entry)) (now (stamps .entry)) index) message) ⌝ }
+{
+    let at = place(head, message.operator, message.ride);
+    let last = stamps[at];
+    if last < message.stamp {
+        return false;
+    }
+    if message.stamp < last {
+        return true;
+    }
+    if message.kind == 1 {
+        return true;
+    }
+    !pairs::is_listed(head, message.operator, message.ride, operators, rides)
+}
+
+// Stores the stamp of a taken message.
+pub fn store(head: Head, message: Message, stamps: &mut [u32])
+    requires { ⌜ stamp-place head (message .operator) (message .ride) < length (now stamps) ⌝ }
+    ensures { λ _. ⌜ now (stamps .exit) ≡ set (now (stamps .entry)) (stamp-place head (message .operator) (message .ride)) (message .stamp) ⌝ }
+{
+    let at = place(head, message.operator, message.ride);
+    stamps[at] = message.stamp;
 }

@@ -5,7 +5,7 @@ use mathlib.Core.List.{List}
 use Prim.Native.Nat.{ℕ, _+_, _*_, _/_, _%_, _≤_, _<_}
 use native.Mathlib.Omega.{arith}
 use native.Mathlib.Decide.{ℕ-discrete, decLt}
-use native.Mathlib.Nat.{lt-of-lt-of-le}
+use native.Mathlib.Nat.{lt-of-lt-of-le, suc-mul, mul-le-mul-right}
 use lib.Arith.{digits-lt, digits-div, digits-mod}
 use lib.Dec.{T, eqb, eqb→eq, eqb-refl}
 use lib.ListN.{length, getD, set}
@@ -17,6 +17,10 @@ use Rattle.model.proofs.Count.{test-true, test-ext, and-left, and-right, and-bo
 -- row i, column j lies inside
 pub place-lt : (a w i j : ℕ) → i < a → j < w → (n : ℕ) → a * w ≤ n → i * w + j < n
 place-lt a w i j h l n m = lt-of-lt-of-le (digits-lt h l) m
+
+-- row i of a table lies inside it, as far as it is used
+pub row-inside : (a w i b : ℕ) → i < a → b ≤ w → (n : ℕ) → a * w ≤ n → i * w + b ≤ n
+row-inside a w i b h l n s = omega (arith, suc-mul i w, mul-le-mul-right w h)
 
 pub place-row : (w i j i′ j′ : ℕ) → j < w → j′ < w → i * w + j ≡ i′ * w + j′ → i ≡ i′
 place-row w i j i′ j′ h h′ e = sym (digits-div i h) ∙ ap (λ (n : ℕ). n / w) e ∙ digits-div i′ h′

@@ -1,75 +1,33 @@
-// The pair arrays: the check of their order and range, and the dense tables of clearances: their filling, and the subtraction of a row.
+// The dense tables of clearances: their filling, and a row subtracted from degrees or added to them.
 ghost use mathlib.Core.Path.{_≡_};
-ghost use mathlib.Core.Bool.{not};
-ghost use Prim.Native.Nat.{ℕ, _+_, _-_, _*_, _<_, _≤_};
+ghost use Prim.Native.Nat.{ℕ, _+_, _-_, _<_, _≤_};
 ghost use lib.ListN.{length, getD};
-ghost use Rattle.model.specs.Count.{bit};
-ghost use Rattle.model.specs.Layout.{listed};
-ghost use Rattle.model.specs.Refusal.{misplaced as misplaced-at, refused-5};
-ghost use Rattle.tables.specs.Table.{InRange};
+ghost use Rattle.model.specs.Layout.{graph};
+ghost use Rattle.pairs.specs.Accepted.{AcceptedPairs};
+ghost use Rattle.tables.specs.Table.{Tables, ZeroTables};
 use model::Head;
 
-// Whether the pair at place i is out of range, or not after the one before it.
-fn misplaced(head: Head, operators: &[u16], rides: &[u16], i: usize) -> bool
-    requires { ⌜ (i < length (now operators)) × (i < length (now rides)) ⌝ }
-    ensures { λ r. ⌜ r ≡ misplaced-at head (now (operators .entry)) (now (rides .entry)) i ⌝ }
-{
-    let u = operators[i];
-    let v = rides[i];
-    if head.operators <= u {
-        return true;
-    }
-    if head.rides <= v {
-        return true;
-    }
-    if i == 0 {
-        return false;
-    }
-    let u0 = operators[i - 1];
-    let v0 = rides[i - 1];
-    if u0 < u {
-        return false;
-    }
-    if u0 == u {
-        return v <= v0;
-    }
-    true
-}
-
-// Whether the listed pairs are in range and strictly ascending: document 01's number 5 does not apply.
-pub fn ascending(head: Head, operators: &[u16], rides: &[u16]) -> bool
-    requires { ⌜ (head .pairs ≤ length (now operators)) × (head .pairs ≤ length (now rides)) ⌝ }
-    ensures { λ r. ⌜ r ≡ not (refused-5 head (now (operators .entry)) (now (rides .entry))) ⌝ }
+// Fills two tables of zeros with the clearances of a pair table, in one reading of the pairs.
+pub fn fill(
+    head: Head,
+    operators: &[u16],
+    rides: &[u16],
+    by_operator: &mut [u8],
+    by_ride: &mut [u8],
+)
+    requires { ⌜ AcceptedPairs head (now operators) (now rides) × ZeroTables (now «by_operator») (now «by_ride») ⌝ }
+    ensures { λ _. ⌜
+        Tables (graph head (now (operators .entry)) (now (rides .entry)))
+        (now («by_operator» .exit)) (now («by_ride» .exit))
+        ⌝ }
 {
     let pairs = head.pairs as usize;
-    let mut i = 0;
-    while i < pairs {
-        if misplaced(head, operators, rides, i) {
-            return false;
-        }
-        i += 1;
-    }
-    true
-}
-
-// Marks the listed pairs in a table of zeros: by operator, or by ride where the two arrays change places.
-pub fn fill(
-    rows: &[u16],
-    columns: &[u16],
-    pairs: usize,
-    width: usize,
-    height: usize,
-    table: &mut [u8],
-)
-    requires { ⌜ (pairs ≤ length (now rows)) × (pairs ≤ length (now columns)) × (height * width ≤ length (now table)) × InRange pairs height width (now rows) (now columns) ⌝ }
-    requires { ⌜ ((k : ℕ) → getD (now table) k 0 ≡ 0) ⌝ }
-    ensures { λ _. ⌜ ((i j : ℕ) → i < height → j < width → getD (now (table .exit)) (i * width + j) 0 ≡ bit (listed pairs (now (rows .entry)) (now (columns .entry)) i j)) ⌝ }
-{
     let mut k = 0;
     while k < pairs {
-        let i = rows[k] as usize;
-        let j = columns[k] as usize;
-        table[i * width + j] = 1;
+        let u = operators[k] as usize;
+        let v = rides[k] as usize;
+        by_operator[u * 60 + v] = 1;
+        by_ride[v * 200 + u] = 1;
         k += 1;
     }
 }
@@ -78,12 +36,30 @@ pub fn fill(
 pub fn subtract(degrees: &mut [u8], row: &[u8])
     requires { ⌜ length (now degrees) ≤ length (now row) ⌝ }
     requires { ⌜ ((j : ℕ) → j < length (now degrees) → getD (now row) j 0 ≤ getD (now degrees) j 0) ⌝ }
-    ensures { λ _. ⌜ ((j : ℕ) → j < length (now (degrees .entry)) → getD (now (degrees .exit)) j 0 ≡ getD (now (degrees .entry)) j 0 - getD (now (row .entry)) j 0) ⌝ }
+    ensures { λ _. ⌜
+        ((j : ℕ) → j < length (now (degrees .entry)) → getD (now (degrees .exit)) j 0 ≡ getD (now (degrees .entry)) j 0 - getD (now (row .entry)) j 0)
+        ⌝ }
 {
     let n = degrees.len();
     let mut j = 0;
     while j < n {
         degrees[j] = degrees[j] - row[j];
+        j += 1;
+    }
+}
+
+// Adds a row of a table to the degrees.
+pub fn add(degrees: &mut [u8], row: &[u8])
+    requires { ⌜ length (now degrees) ≤ length (now row) ⌝ }
+    requires { ⌜ ((j : ℕ) → j < length (now degrees) → getD (now degrees) j 0 + getD (now row) j 0 ≤ 255) ⌝ }
+    ensures { λ _. ⌜
+        ((j : ℕ) → j < length (now (degrees .entry)) → getD (now (degrees .exit)) j 0 ≡ getD (now (degrees .entry)) j 0 + getD (now (row .entry)) j 0)
+        ⌝ }
+{
+    let n = degrees.len();
+    let mut j = 0;
+    while j < n {
+        degrees[j] = degrees[j] + row[j];
         j += 1;
     }
 }

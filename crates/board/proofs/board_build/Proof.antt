@@ -2,7 +2,7 @@
 use borrow.Author.Needs.{needs}
 use mathlib.Core.Path.{_≡_, sym, _∙_}
 use native.Mathlib.Omega.{arith}
-use Rattle.model.specs.Layout.{lent}
+use Rattle.model.specs.Layout.{Operators, Rides, Stamps, Index}
 use Rattle.pairs.proofs.Place.{product-small}
 use Rattle.board.proofs.Builds.{build-refused, build-table, build-fits, build-pairs, build-done}
 use Rattle.board.proofs.board_build.Statement.{statement}
@@ -25,7 +25,7 @@ same-length-4 c = search needs
 
 returns : tie.Need-returns
 returns c = let a = c .before .before .before .before .before .before .before .before .before .before .args in
-    build-refused (lent (a .head) (a .operators .now) (a .rides .now) (a .stamps .now) (a .index .now)) (a .start) _ (c .before .build-number .ensures) (omega arith)
+    build-refused (a .head) (a .operators .now) (a .rides .now) (a .stamps .now) (a .index .now) (a .start) _ (c .before .build-number .ensures) (omega arith)
 
 cast-places : tie.Need-cast-places
 cast-places c = search needs
@@ -35,10 +35,9 @@ cast-places-2 c = search needs
 
 mul-places : tie.Need-mul-places
 mul-places c = let a = c .before .before .before .before .before .before .before .before .before .before .before .before .args in
-    let b = lent (a .head) (a .operators .now) (a .rides .now) (a .stamps .now) (a .index .now) in
     let q = c .before .before .before .build-number in
     let none = sym (q .ensures) ∙ (let z : q .result ≡ 0 = omega arith in z) in
-    let t = build-table b (a .start) none in
+    let t = build-table (a .head) (a .operators .now) (a .rides .now) (a .stamps .now) (a .index .now) (a .start) none in
     omega (arith, product-small (a .head .operators) (a .head .rides) (t .few-operators) (t .few-rides))
 
 cast-pairs : tie.Need-cast-pairs
@@ -46,31 +45,27 @@ cast-pairs c = search needs
 
 fill-requires : tie.Need-fill-requires
 fill-requires c κs = let a = c .before .before .before .before .before .before .before .before .before .before .before .before .before .before .before .before .args in
-    let b = lent (a .head) (a .operators .now) (a .rides .now) (a .stamps .now) (a .index .now) in
     let q = c .before .before .before .before .before .before .before .build-number in
     let none = sym (q .ensures) ∙ (let z : q .result ≡ 0 = omega arith in z) in
-    (build-pairs b (a .start) none, build-table b (a .start) none .stamps)
+    (build-pairs (a .head) (a .operators .now) (a .rides .now) (a .stamps .now) (a .index .now) (a .start) none, build-table (a .head) (a .operators .now) (a .rides .now) (a .stamps .now) (a .index .now) (a .start) none .long Stamps)
 
 fill-index-requires : tie.Need-fill-index-requires
 fill-index-requires c κs = let a = c .before .before .before .before .before .before .before .before .before .before .before .before .before .before .before .before .before .before .before .before .before .before .args in
-    let b = lent (a .head) (a .operators .now) (a .rides .now) (a .stamps .now) (a .index .now) in
     let q = c .before .before .before .before .before .before .before .before .before .before .before .before .before .build-number in
     let none = sym (q .ensures) ∙ (let z : q .result ≡ 0 = omega arith in z) in
-    (build-pairs b (a .start) none, build-table b (a .start) none .index)
+    (build-pairs (a .head) (a .operators .now) (a .rides .now) (a .stamps .now) (a .index .now) (a .start) none, build-table (a .head) (a .operators .now) (a .rides .now) (a .stamps .now) (a .index .now) (a .start) none .long Index)
 
-clear-tail-requires : tie.Need-clear-tail-requires
-clear-tail-requires c κs = let a = c .before .before .before .before .before .before .before .before .before .before .before .before .before .before .before .before .before .before .before .before .before .before .before .before .before .before .args in
-    let b = lent (a .head) (a .operators .now) (a .rides .now) (a .stamps .now) (a .index .now) in
+fill-requires-2 : tie.Need-fill-requires-2
+fill-requires-2 c κs = let a = c .before .before .before .before .before .before .before .before .before .before .before .before .before .before .before .before .before .before .before .before .before .before .before .before .before .before .args in
     let q = c .before .before .before .before .before .before .before .before .before .before .before .before .before .before .before .before .before .build-number in
     let none = sym (q .ensures) ∙ (let z : q .result ≡ 0 = omega arith in z) in
-    (build-fits b (a .start) none, build-table b (a .start) none .operators)
+    (build-fits (a .head) (a .operators .now) (a .rides .now) (a .stamps .now) (a .index .now) (a .start) none, build-table (a .head) (a .operators .now) (a .rides .now) (a .stamps .now) (a .index .now) (a .start) none .long Operators)
 
-clear-tail-requires-2 : tie.Need-clear-tail-requires-2
-clear-tail-requires-2 c κs = let a = c .before .before .before .before .before .before .before .before .before .before .before .before .before .before .before .before .before .before .before .before .before .before .before .before .before .before .before .before .before .before .args in
-    let b = lent (a .head) (a .operators .now) (a .rides .now) (a .stamps .now) (a .index .now) in
+fill-requires-3 : tie.Need-fill-requires-3
+fill-requires-3 c κs = let a = c .before .before .before .before .before .before .before .before .before .before .before .before .before .before .before .before .before .before .before .before .before .before .before .before .before .before .before .before .before .before .args in
     let q = c .before .before .before .before .before .before .before .before .before .before .before .before .before .before .before .before .before .before .before .before .before .build-number in
     let none = sym (q .ensures) ∙ (let z : q .result ≡ 0 = omega arith in z) in
-    (build-fits b (a .start) none, build-table b (a .start) none .rides)
+    (build-fits (a .head) (a .operators .now) (a .rides .now) (a .stamps .now) (a .index .now) (a .start) none, build-table (a .head) (a .operators .now) (a .rides .now) (a .stamps .now) (a .index .now) (a .start) none .long Rides)
 
 same-length-5 : tie.Need-same-length-5
 same-length-5 c = search needs
@@ -86,10 +81,9 @@ same-length-8 c = search needs
 
 returns-2 : tie.Need-returns-2
 returns-2 c = let a = c .before .before .before .before .before .before .before .before .before .before .before .before .before .before .before .before .before .before .before .before .before .before .before .before .before .before .before .before .before .before .before .before .before .args in
-    let b = lent (a .head) (a .operators .now) (a .rides .now) (a .stamps .now) (a .index .now) in
     let q = c .before .before .before .before .before .before .before .before .before .before .before .before .before .before .before .before .before .before .before .before .before .before .before .before .build-number in
     let none = sym (q .ensures) ∙ (let z : q .result ≡ 0 = omega (arith, c .before .before .before .before .before .before .before .before .before .before .before .before .before .before .before .before .before .before .before .before .before .before .before .if1 .left) in z) in
-    build-done b (a .start) none _ _ _ _ (c .before .before .before .before .before .before .clear-tail .ensures) (c .before .before .clear-tail2 .ensures) (c .before .before .before .before .before .before .before .before .before .before .before .before .before .before .before .before .fill .ensures) (c .before .before .before .before .before .before .before .before .before .before .fill-index .ensures .0)
+    build-done (a .head) (a .operators .now) (a .rides .now) (a .stamps .now) (a .index .now) (a .start) none _ _ _ _ (c .before .before .before .before .before .before .fill2 .ensures) (c .before .before .fill3 .ensures) (c .before .before .before .before .before .before .before .before .before .before .before .before .before .before .before .before .fill .ensures) (c .before .before .before .before .before .before .before .before .before .before .fill-index .ensures .0)
 
 pub board-build-spec : {M : Type 1} → statement M
 board-build-spec =
@@ -107,8 +101,8 @@ board-build-spec =
     cast-pairs
     fill-requires
     fill-index-requires
-    clear-tail-requires
-    clear-tail-requires-2
+    fill-requires-2
+    fill-requires-3
     same-length-5
     same-length-6
     same-length-7

@@ -27,20 +27,11 @@ cast-w c = search needs
 add-w : tie.Need-add-w
 add-w c = search needs
 
-sub-clear : tie.Need-sub-clear
-sub-clear c = search needs
-
-part-clear-start : tie.Need-part-clear-start
-part-clear-start c = search needs
-
-part-clear-end : tie.Need-part-clear-end
-part-clear-end c = let a = c .before .before .before .before .before .before .before .before .before .args in
-    let q = c .before .before .before .before .before .query-number in
+fill-requires : tie.Need-fill-requires
+fill-requires c κs = let a = c .before .before .before .before .before .before .before .before .before .before .args in
+    let q = c .before .before .before .before .before .before .query-number in
     let none = sym (q .ensures) ∙ (let z : q .result ≡ 0 = omega arith in z) in
-    query-long (a .head) (a .index .now) (a .marks .now) (a .alpha) (a .beta) none .3
-
-clear-requires : tie.Need-clear-requires
-clear-requires c κs = search needs
+    (omega arith, query-long (a .head) (a .index .now) (a .marks .now) (a .alpha) (a .beta) none .3)
 
 same-length-2 : tie.Need-same-length-2
 same-length-2 c = search needs
@@ -49,8 +40,7 @@ returns-2 : tie.Need-returns-2
 returns-2 c = let a = c .before .before .before .before .before .before .before .before .before .before .before .before .before .args in
     let q = c .before .before .before .before .before .before .before .before .before .query-number in
     let none = sym (q .ensures) ∙ (let z : q .result ≡ 0 = omega arith in z) in
-    let v = c .before .before .clear in
-    query-nobody (a .head) (a .index .now) (a .marks .now) (a .alpha) (a .beta) none (omega arith) (v .last .0) (omega arith) (v .ensures)
+    query-nobody (a .head) (a .index .now) (a .marks .now) (a .alpha) (a .beta) none (omega arith) _ (c .before .before .fill .ensures)
 
 sub-at : tie.Need-sub-at
 sub-at c = let a = c .before .before .before .before .before .before .before .before .before .args in
@@ -117,10 +107,7 @@ board-query-spec =
     cast-n
     cast-w
     add-w
-    sub-clear
-    part-clear-start
-    part-clear-end
-    clear-requires
+    fill-requires
     same-length-2
     returns-2
     sub-at

@@ -1,7 +1,7 @@
 -- `levels::fill_index` meets its contract: tables of zeros are filled, and the index from them. Assumes nothing.
 use borrow.Author.Needs.{needs}
 use mathlib.Core.Path.{refl}
-use Rattle.model.proofs.Store.{getD-zeros}
+use Rattle.tables.proofs.Held.{zero-tables}
 use Rattle.levels.proofs.fill_index.Statement.{statement}
 use Rattle.levels.proofs.fill_index.Tie as tie
 
@@ -15,7 +15,7 @@ slice-aggregate-fill-over-3 : tie.Need-slice-aggregate-fill-over-3
 slice-aggregate-fill-over-3 c = search needs
 
 fill-over-requires : tie.Need-fill-over-requires
-fill-over-requires c κs = let s = c .before .before .before .before .before .before .before in ((s .pre .0, refl, refl, refl, s .pre .1), (getD-zeros 12000, getD-zeros 12000))
+fill-over-requires c κs = let s = c .before .before .before .before .before .before .before in (s .pre .0, zero-tables, refl, s .pre .1)
 
 same-length : tie.Need-same-length
 same-length c = search needs

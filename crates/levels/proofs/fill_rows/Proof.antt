@@ -5,8 +5,8 @@ use mathlib.Core.Path.{ap₂}
 use Rattle.model.proofs.Count.{length-values}
 use Rattle.levels.proofs.Stored.{index-done, differ-done, index-small}
 use Rattle.model.proofs.Differ.{differing-none, differing-le}
-use Rattle.levels.proofs.Side.{row-inside}
-use Rattle.levels.proofs.Rows.{row-values}
+use Rattle.tables.proofs.Place.{row-inside}
+use Rattle.levels.proofs.Index.{row-values}
 use borrow.Rule.Slice.PartMut.{same-len-mid}
 use Prim.Native.Nat.{ℕ, suc, _+_, _*_, _≤_, _-_}
 use mathlib.Core.Path.{_≡_, refl, sym, ap, _∙_, subst}
@@ -16,7 +16,7 @@ use lib.ListN.{length, drop}
 use Rattle.model.specs.Count.{rows}
 use Rattle.model.specs.Graph.{level}
 use Rattle.model.specs.Layout.{differing}
-use Rattle.levels.specs.Row.{table-graph}
+use Rattle.tables.specs.Table.{table-graph}
 use Rattle.levels.proofs.Stored.{stored-row, differing-row, no-rows}
 use Rattle.levels.proofs.fill_rows.Statement.{statement}
 use Rattle.levels.proofs.fill_rows.Tie as tie
@@ -45,14 +45,14 @@ cast-any-row c = search needs
 
 any-row-requires : tie.Need-any-row-requires Inv-loop μ-loop
 any-row-requires c κs = let s = c .before .before .before .before .before .before .before in
-    ((s .pre .0 .0, s .pre .0 .1, omega arith, omega (arith, c .before .before .loop .inv .1, s .pre .0 .2)), s .pre .1)
+    ((s .pre .0 .0, omega arith, omega (arith, c .before .before .loop .inv .1, s .pre .0 .1)), s .pre .1)
 
 mul-at : tie.Need-mul-at Inv-loop μ-loop
 mul-at c = let s = c .before .before .before .before .before .before .before .before .before .before in
     let a = s .args in
     let l = c .before .before .before .before .before .loop in
     let w = length (a .row .now) in
-    let inside = row-inside (a .m) w (l .a) w (omega arith) (omega arith) (length (a .index .now)) (subst (λ (z : ℕ). a .m * z ≤ length (a .index .now)) (sym (s .pre .0 .2)) (s .pre .0 .3)) in
+    let inside = row-inside (a .m) w (l .a) w (omega arith) (omega arith) (length (a .index .now)) (subst (λ (z : ℕ). a .m * z ≤ length (a .index .now)) (sym (s .pre .0 .1)) (s .pre .0 .2)) in
     omega (arith, inside)
 
 add-end : tie.Need-add-end Inv-loop μ-loop
@@ -60,7 +60,7 @@ add-end c = let s = c .before .before .before .before .before .before .before .b
     let a = s .args in
     let l = c .before .before .before .before .before .loop in
     let w = length (a .row .now) in
-    let inside = row-inside (a .m) w (l .a) w (omega arith) (omega arith) (length (a .index .now)) (subst (λ (z : ℕ). a .m * z ≤ length (a .index .now)) (sym (s .pre .0 .2)) (s .pre .0 .3)) in
+    let inside = row-inside (a .m) w (l .a) w (omega arith) (omega arith) (length (a .index .now)) (subst (λ (z : ℕ). a .m * z ≤ length (a .index .now)) (sym (s .pre .0 .1)) (s .pre .0 .2)) in
     omega (arith, inside)
 
 mul-store : tie.Need-mul-store Inv-loop μ-loop
@@ -68,7 +68,7 @@ mul-store c = let s = c .before .before .before .before .before .before .before 
     let a = s .args in
     let l = c .before .before .before .before .before .loop in
     let w = length (a .row .now) in
-    let inside = row-inside (a .m) w (l .a) w (omega arith) (omega arith) (length (a .index .now)) (subst (λ (z : ℕ). a .m * z ≤ length (a .index .now)) (sym (s .pre .0 .2)) (s .pre .0 .3)) in
+    let inside = row-inside (a .m) w (l .a) w (omega arith) (omega arith) (length (a .index .now)) (subst (λ (z : ℕ). a .m * z ≤ length (a .index .now)) (sym (s .pre .0 .1)) (s .pre .0 .2)) in
     omega (arith, inside, s .fits)
 
 sub-store : tie.Need-sub-store Inv-loop μ-loop
@@ -82,7 +82,7 @@ part-store-end c = let s = c .before .before .before .before .before .before .be
     let a = s .args in
     let l = c .before .before .before .before .before .loop in
     let w = length (a .row .now) in
-    let inside = row-inside (a .m) w (l .a) w (omega arith) (omega arith) (length (a .index .now)) (subst (λ (z : ℕ). a .m * z ≤ length (a .index .now)) (sym (s .pre .0 .2)) (s .pre .0 .3)) in
+    let inside = row-inside (a .m) w (l .a) w (omega arith) (omega arith) (length (a .index .now)) (subst (λ (z : ℕ). a .m * z ≤ length (a .index .now)) (sym (s .pre .0 .1)) (s .pre .0 .2)) in
     subst (λ (k : ℕ). l .a * w + w ≤ k) (sym (l .inv .2)) inside
 
 store-requires : tie.Need-store-requires Inv-loop μ-loop
@@ -95,10 +95,10 @@ add-differ c = let s = c .before .before .before .before .before .before .before
     let w = length (a .row .now) in
     let v = c .before .before .store .ensures in
     let row = c .before .before .before .before .before .before .before .any-row .last .1 .1 .1 .1 .1 .1 .1 .0 in
-    let r = (row-values (table-graph (a .n) (a .m) (a .by-operator .now)) (l .a) w (s .pre .0 .2) row (c .before .before .before .before .before .before .before .any-row .ensures)) in
+    let r = (row-values (table-graph (a .n) (a .m) (a .by-operator .now)) (l .a) w (s .pre .0 .1) row (c .before .before .before .before .before .before .before .any-row .ensures)) in
     let long = ap length r ∙ length-values (λ (x : ℕ). level (table-graph (a .n) (a .m) (a .by-operator .now)) (suc (l .a)) x) w in
     let d = ap₂ _+_ (l .inv .4) (v .1 ∙ ap (λ (k : ℕ). differing k (take (l .a * w + w - l .a * w) (drop (l .a * w) (l .index))) row) long) ∙ differing-row w (a .m) (λ (b x : ℕ). level (table-graph (a .n) (a .m) (a .by-operator .now)) (suc b) x) (a .index .now) (l .a) (omega arith) (l .index) (l .inv .3) row r in
-    omega (arith, d, differing-le (a .index .now) (rows (a .m) w (λ (b x : ℕ). level (table-graph (a .n) (a .m) (a .by-operator .now)) (suc b) x)) ((l .a + 1) * w), row-inside (a .m) w (l .a) w (omega arith) (omega arith) (a .m * w) (omega arith), index-small (a .m) w (s .pre .0 .0 .by-operator-bits .wide) (omega (arith, s .pre .0 .2, s .pre .0 .0 .by-ride-bits .wide, s .pre .0 .0 .by-operator-bits .wide)))
+    omega (arith, d, differing-le (a .index .now) (rows (a .m) w (λ (b x : ℕ). level (table-graph (a .n) (a .m) (a .by-operator .now)) (suc b) x)) ((l .a + 1) * w), row-inside (a .m) w (l .a) w (omega arith) (omega arith) (a .m * w) (omega arith), index-small (a .m) w (s .pre .0 .0 .tables .by-operator .wide) (omega (arith, s .pre .0 .1, s .pre .0 .0 .tables .by-ride .wide, s .pre .0 .0 .tables .by-operator .wide)))
 
 add-a : tie.Need-add-a Inv-loop μ-loop
 add-a c = search needs
@@ -113,7 +113,7 @@ loop-again c = let s = c .before .before .before .before .before .before .before
     let w = length (a .row .now) in
     let v = c .before .before .store .ensures in
     let row = c .before .before .before .before .before .before .before .any-row .last .1 .1 .1 .1 .1 .1 .1 .0 in
-    let r = (row-values (table-graph (a .n) (a .m) (a .by-operator .now)) (l .a) w (s .pre .0 .2) row (c .before .before .before .before .before .before .before .any-row .ensures)) in
+    let r = (row-values (table-graph (a .n) (a .m) (a .by-operator .now)) (l .a) w (s .pre .0 .1) row (c .before .before .before .before .before .before .before .any-row .ensures)) in
     let long = ap length r ∙ length-values (λ (x : ℕ). level (table-graph (a .n) (a .m) (a .by-operator .now)) (suc (l .a)) x) w in
     let d = ap₂ _+_ (l .inv .4) (v .1 ∙ ap (λ (k : ℕ). differing k (take (l .a * w + w - l .a * w) (drop (l .a * w) (l .index))) row) long) ∙ differing-row w (a .m) (λ (b x : ℕ). level (table-graph (a .n) (a .m) (a .by-operator .now)) (suc b) x) (a .index .now) (l .a) (omega arith) (l .index) (l .inv .3) row r in (
       omega arith,
@@ -135,7 +135,7 @@ returns c = let s = c .before .before .before .before .before .before in
     let l = c .before .loop in
     let w = length (a .row .now) in
     let g = table-graph (a .n) (a .m) (a .by-operator .now) in
-    (index-done g w (l .a) (s .pre .0 .2) (omega arith) (a .index .now) (l .index) (l .inv .3), differ-done g w (l .a) (s .pre .0 .2) (omega arith) (a .index .now) (l .differ) (l .inv .4))
+    (index-done g w (l .a) (s .pre .0 .1) (omega arith) (a .index .now) (l .index) (l .inv .3), differ-done g w (l .a) (s .pre .0 .1) (omega arith) (a .index .now) (l .differ) (l .inv .4))
 
 pub fill-rows-spec : {M : Type 1} → statement M
 fill-rows-spec =

@@ -49,16 +49,16 @@ shift-requires-2 c κs = let s = c .before .before .before .before .before .befo
     let fits = count-fits (a .head) (a .operators .now) (a .rides .now) (s .pre .0) (a .operator) (a .ride) (s .pre .1) (s .pre .2) (a .grant) _ place _ stands _ counted in
     (place .within, omega arith, omega arith, count-next (a .head) (a .operators .now) (a .rides .now) (s .pre .0) (a .operator) (a .ride) (s .pre .1) (s .pre .2) (a .grant) _ place _ stands _ counted, count-place (a .head) (a .operators .now) (a .rides .now) (s .pre .0) (a .operator) (a .ride) (s .pre .1) (s .pre .2) (a .grant) _ place _ stands _ counted)
 
-clear-tail-requires : tie.Need-clear-tail-requires
-clear-tail-requires c κs = let s = c .before .before .before .before .before .before .before .before .before .before .before .before .before .before .before .before .before .before .before .before .before in
+fill-requires : tie.Need-fill-requires
+fill-requires c κs = let s = c .before .before .before .before .before .before .before .before .before .before .before .before .before .before .before .before .before .before .before .before .before in
     let a = s .args in
     let place = c .before .before .before .before .before .before .before .before .before .before .before .before .before .place-of .ensures in
     let stands = c .before .before .before .before .before .before .before .before .before .before .stands-at .ensures in
     let counted = c .before .before .before .before .before .before .before .before .before .count-of .ensures in
     (count-fits (a .head) (a .operators .now) (a .rides .now) (s .pre .0) (a .operator) (a .ride) (s .pre .1) (s .pre .2) (a .grant) _ place _ stands _ counted, omega arith)
 
-clear-tail-requires-2 : tie.Need-clear-tail-requires-2
-clear-tail-requires-2 c κs = let s = c .before .before .before .before .before .before .before .before .before .before .before .before .before .before .before .before .before .before .before .before .before .before .before .before .before in
+fill-requires-2 : tie.Need-fill-requires-2
+fill-requires-2 c κs = let s = c .before .before .before .before .before .before .before .before .before .before .before .before .before .before .before .before .before .before .before .before .before .before .before .before .before in
     let a = s .args in
     let place = c .before .before .before .before .before .before .before .before .before .before .before .before .before .before .before .before .before .place-of .ensures in
     let stands = c .before .before .before .before .before .before .before .before .before .before .before .before .before .before .stands-at .ensures in
@@ -86,7 +86,7 @@ returns c = let s = c .before .before .before .before .before .before .before .b
     let stands = c .before .before .before .before .before .before .before .before .before .before .before .before .before .before .before .before .before .stands-at .ensures in
     let counted = c .before .before .before .before .before .before .before .before .before .before .before .before .before .before .before .before .count-of .ensures in
     let fits = count-fits (a .head) (a .operators .now) (a .rides .now) (s .pre .0) (a .operator) (a .ride) (s .pre .1) (s .pre .2) (a .grant) _ place _ stands _ counted in
-    changed-all (a .head) (a .operators .now) (a .rides .now) (s .pre .0) (a .operator) (a .ride) (s .pre .1) (s .pre .2) (a .grant) _ place _ stands _ counted _ _ (c .before .before .before .before .before .before .before .before .before .before .before .before .before .before .shift .ensures) (c .before .before .before .before .before .before .before .before .before .before .shift2 .ensures) (omega arith) (omega arith) _ _ (c .before .before .before .before .before .before .clear-tail .ensures) (c .before .before .clear-tail2 .ensures)
+    changed-all (a .head) (a .operators .now) (a .rides .now) (s .pre .0) (a .operator) (a .ride) (s .pre .1) (s .pre .2) (a .grant) _ place _ stands _ counted _ _ (c .before .before .before .before .before .before .before .before .before .before .before .before .before .before .shift .ensures) (c .before .before .before .before .before .before .before .before .before .before .shift2 .ensures) (omega arith) (omega arith) _ _ (c .before .before .before .before .before .before .fill .ensures) (c .before .before .fill2 .ensures)
 
 pub change-spec : {M : Type 1} → statement M
 change-spec =
@@ -101,8 +101,8 @@ change-spec =
     count-of-requires
     shift-requires
     shift-requires-2
-    clear-tail-requires
-    clear-tail-requires-2
+    fill-requires
+    fill-requires-2
     cast-result
     same-length
     same-length-2

@@ -1,12 +1,10 @@
 -- `pairs::insert` meets its contract. The loop's invariant: the words below i are those after the insertion, and the carried word is the next. Assumes nothing.
 use borrow.Author.Needs.{needs}
-use mathlib.Core.Path.{ap}
-use Prim.Native.Nat.{ℕ, _+_, _≤_, _<_, _-_}
-use mathlib.Core.Path.{_≡_, refl, sym, _∙_}
+use mathlib.Core.Path.{_≡_, refl, sym, ap, _∙_}
+use Prim.Native.Nat.{ℕ, _+_, _≤_, _-_}
 use native.Mathlib.Omega.{arith}
-use lib.ListN.{length, getD, drop, length-set}
-use lib.Seq.{drop-set-lt}
-use Rattle.model.proofs.Store.{stored, left-alone}
+use lib.ListN.{length, getD, length-set}
+use Rattle.words.proofs.Storing.{Storing, storing-start, storing-more}
 use Rattle.pairs.proofs.Words.{inserted-at, inserted-below, inserted-here, inserted-above}
 use Rattle.pairs.proofs.insert.Statement.{statement}
 use Rattle.pairs.proofs.insert.Tie as tie
@@ -17,9 +15,7 @@ Inv-loop array₀ place n word carried₀ i₀ array carried i =
     (i ≤ n + 1) ×
     (length array ≡ length array₀) ×
     (carried ≡ inserted-at array₀ place word i) ×
-    ((k : ℕ) → k < i → getD array k 0 ≡ inserted-at array₀ place word k) ×
-    ((k : ℕ) → i ≤ k → getD array k 0 ≡ getD array₀ k 0) ×
-    (drop (n + 1) array ≡ drop (n + 1) array₀)
+    Storing (inserted-at array₀ place word) (n + 1) array₀ array i
 
 abbrev μ-loop : tie.MeasureT-loop
 μ-loop array₀ place n word carried₀ i₀ array carried i =
@@ -31,9 +27,7 @@ loop-holds c = let a = c .args in (
   omega arith,
   refl,
   sym (inserted-here (a .array .now) (a .place) (a .word) (a .place) refl),
-  (λ k l. sym (inserted-below (a .array .now) (a .place) (a .word) k l)),
-  (λ k l. refl),
-  refl,
+  storing-start _ _ _ (a .place) (λ k l. sym (inserted-below (a .array .now) (a .place) (a .word) k l)),
 )
 
 mul-next : tie.Need-mul-next Inv-loop μ-loop
@@ -57,15 +51,12 @@ loop-less c = search needs
 loop-again : tie.Need-loop-again Inv-loop μ-loop
 loop-again c = let a = c .before .before .before .args in
     let l = c .before .before .loop in
-    let f : ℕ → ℕ = inserted-at (a .array .now) (a .place) (a .word) in
-    let fits : l .i < length (l .array) = omega arith in (
+    let f : ℕ → ℕ = inserted-at (a .array .now) (a .place) (a .word) in (
       omega arith,
       omega arith,
       simp length-set (omega arith),
-      l .inv .5 (l .i) (omega arith) ∙ sym (inserted-above (a .array .now) (a .place) (a .word) (l .i + 1) (omega arith) ∙ ap (λ (k : ℕ). getD (a .array .now) k 0) (let e : l .i + 1 - 1 ≡ l .i = omega arith in e)),
-      stored f (a .array .now) (l .array) (l .i) (l .carried) fits (l .inv .3) (l .inv .4),
-      left-alone f (a .array .now) (l .array) (l .i) (l .carried) fits (l .inv .3) (l .inv .5),
-      drop-set-lt (a .n + 1) (l .array) (l .i) (l .carried) (omega arith) ∙ l .inv .6,
+      l .inv .4 .ahead (l .i) (omega arith) ∙ sym (inserted-above (a .array .now) (a .place) (a .word) (l .i + 1) (omega arith) ∙ ap (λ (k : ℕ). getD (a .array .now) k 0) (let e : l .i + 1 - 1 ≡ l .i = omega arith in e)),
+      storing-more f (a .n + 1) (a .array .now) (l .array) (l .i) (l .carried) (l .inv .4) (omega arith) (omega arith) (l .inv .3),
     )
 
 same-length : tie.Need-same-length Inv-loop μ-loop
@@ -76,10 +67,10 @@ returns c = let a = c .before .before .args in
     let s = c .before .before in
     let l = c .before .loop in
     record {
-      below = λ k h. l .inv .4 k (omega arith) ∙ inserted-below (a .array .now) (a .place) (a .word) k h;
-      here = l .inv .4 (a .place) (omega arith) ∙ inserted-here (a .array .now) (a .place) (a .word) (a .place) refl;
-      above = λ k h b. l .inv .4 k (omega arith) ∙ inserted-above (a .array .now) (a .place) (a .word) k h;
-      rest = l .inv .6;
+      below = λ k h. l .inv .4 .done k (omega arith) ∙ inserted-below (a .array .now) (a .place) (a .word) k h;
+      here = l .inv .4 .done (a .place) (omega arith) ∙ inserted-here (a .array .now) (a .place) (a .word) (a .place) refl;
+      above = λ k h b. l .inv .4 .done k (omega arith) ∙ inserted-above (a .array .now) (a .place) (a .word) k h;
+      rest = l .inv .4 .past;
     }
 
 pub insert-spec : {M : Type 1} → statement M

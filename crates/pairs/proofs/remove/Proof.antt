@@ -1,11 +1,10 @@
 -- `pairs::remove` meets its contract. The loop's invariant: the words below i are those after the removal, the others as they came. Assumes nothing.
 use borrow.Author.Needs.{needs}
-use Prim.Native.Nat.{ℕ, _+_, _≤_, _<_, _-_}
+use Prim.Native.Nat.{ℕ, _+_, _≤_, _-_}
 use mathlib.Core.Path.{_≡_, refl, sym, _∙_}
 use native.Mathlib.Omega.{arith}
-use lib.ListN.{length, getD, drop, length-set}
-use lib.Seq.{drop-set-lt}
-use Rattle.model.proofs.Store.{stored, left-alone}
+use lib.ListN.{length, getD, length-set}
+use Rattle.words.proofs.Storing.{Storing, storing-start, storing-more}
 use Rattle.pairs.proofs.Words.{removed-at, removed-below, removed-above}
 use Rattle.pairs.proofs.remove.Statement.{statement}
 use Rattle.pairs.proofs.remove.Tie as tie
@@ -15,9 +14,7 @@ Inv-loop array₀ place n i₀ array i =
     (place ≤ i) ×
     (i + 1 ≤ n) ×
     (length array ≡ length array₀) ×
-    ((k : ℕ) → k < i → getD array k 0 ≡ removed-at array₀ place k) ×
-    ((k : ℕ) → i ≤ k → getD array k 0 ≡ getD array₀ k 0) ×
-    (drop n array ≡ drop n array₀)
+    Storing (removed-at array₀ place) n array₀ array i
 
 abbrev μ-loop : tie.MeasureT-loop
 μ-loop array₀ place n i₀ array i =
@@ -28,9 +25,7 @@ loop-holds c = let a = c .args in (
   omega arith,
   omega arith,
   refl,
-  (λ k l. sym (removed-below (a .array .now) (a .place) k l)),
-  (λ k l. refl),
-  refl,
+  storing-start _ _ _ (a .place) (λ k l. sym (removed-below (a .array .now) (a .place) k l)),
 )
 
 add-loop : tie.Need-add-loop Inv-loop μ-loop
@@ -62,14 +57,11 @@ loop-again c = let a = c .before .before .before .args in
     let l = c .before .before .loop in
     let f : ℕ → ℕ = removed-at (a .array .now) (a .place) in
     let next : ℕ = getD (l .array) (l .i + 1) 0 in
-    let fits : l .i < length (l .array) = omega arith in
-    let value : next ≡ f (l .i) = l .inv .4 (l .i + 1) (omega arith) ∙ sym (removed-above (a .array .now) (a .place) (l .i) (omega arith)) in (
+    let value : next ≡ f (l .i) = l .inv .3 .ahead (l .i + 1) (omega arith) ∙ sym (removed-above (a .array .now) (a .place) (l .i) (omega arith)) in (
       omega arith,
       omega arith,
       simp length-set (omega arith),
-      stored f (a .array .now) (l .array) (l .i) next fits value (l .inv .3),
-      left-alone f (a .array .now) (l .array) (l .i) next fits value (l .inv .4),
-      drop-set-lt (a .n) (l .array) (l .i) next (omega arith) ∙ l .inv .5,
+      storing-more f (a .n) (a .array .now) (l .array) (l .i) next (l .inv .3) (omega arith) (omega arith) value,
     )
 
 same-length : tie.Need-same-length Inv-loop μ-loop
@@ -79,9 +71,9 @@ returns : tie.Need-returns Inv-loop μ-loop
 returns c = let a = c .before .before .args in
     let l = c .before .loop in
     record {
-      below = λ k h. l .inv .3 k (omega arith) ∙ removed-below (a .array .now) (a .place) k h;
-      above = λ k h b. l .inv .3 k (omega arith) ∙ removed-above (a .array .now) (a .place) k h;
-      rest = l .inv .5;
+      below = λ k h. l .inv .3 .done k (omega arith) ∙ removed-below (a .array .now) (a .place) k h;
+      above = λ k h b. l .inv .3 .done k (omega arith) ∙ removed-above (a .array .now) (a .place) k h;
+      rest = l .inv .3 .past;
     }
 
 pub remove-spec : {M : Type 1} → statement M

@@ -21,9 +21,10 @@ start-requires c κs = search needs
 
 run-requires : tie.Need-run-requires
 run-requires c κs =
-    let p = c .before .before .before .before .before .before .before .pre in
+    let s = c .before .before .before .before .before .before .before .before in
+    let p = s .pre .0 in
     let z = c .start .ensures (p .0) (p .1) in
-    ((p .0, p .1 .tables, z .state), z .steps)
+    ((p .0, p .1 .tables, z .state), (z .steps, omega (arith, z .state .operators, z .state .rides, p .1 .operators, p .1 .rides, s .pre .1)))
 
 slice-aggregate-copy-marks : tie.Need-slice-aggregate-copy-marks
 slice-aggregate-copy-marks c = search needs
@@ -37,18 +38,19 @@ add-copy-marks c = search needs
 
 copy-marks-requires : tie.Need-copy-marks-requires
 copy-marks-requires c κs =
-    let o = c .before .before .before .before .before .before .before .before .before .before .before .pre .1 in (
-      omega (arith, long (c .before .before .before), o .operators, o .rides, o .tables .most-operators, o .tables .most-rides),
+    let o = c .before .before .before .before .before .before .before .before .before .before .before .before .pre .0 .1 in (
+      omega (arith, long (c .before .before .before), o .operators, o .rides, o .tables .by-ride .wide, o .tables .by-operator .wide),
       omega (arith, o .operators, o .rides, o .room),
     )
 
 settled-requires : tie.Need-settled-requires
 settled-requires c κs =
     let r = c .before .before .before .before .before .before in
-    let p = r .before .before .before .before .before .before .before .before .pre in
+    let s = r .before .before .before .before .before .before .before .before .before in
+    let p = s .pre .0 in
     let o = p .1 in
     let w = r .run .ensures (p .0) (o .tables) (r .before .start .ensures (p .0) o .state) .state in
-    omega (arith, w .operators, w .rides, o .tables .most-operators, o .tables .most-rides)
+    (omega (arith, w .operators, w .rides, o .tables .by-ride .wide, o .tables .by-operator .wide), omega (arith, w .operators, w .rides, o .operators, o .rides, s .pre .1))
 
 same-length : tie.Need-same-length
 same-length c = search needs
@@ -56,7 +58,7 @@ same-length c = search needs
 returns : tie.Need-returns
 returns c = λ g o.
     let r = c .before .before .before .before .before .before .before in
-    let a = r .before .before .before .before .before .before .before .before .args in
+    let a = r .before .before .before .before .before .before .before .before .before .args in
     let z = r .before .start .ensures g o in
     let w = r .run .ensures g (o .tables) (z .state) in
     let e : a .head .operators + a .head .rides ≡ nodes g = omega (arith, o .operators, o .rides) in

@@ -1,71 +1,41 @@
--- `refusals::message_number` meets its contract. Assumes nothing.
+-- `refusals::message_number` meets its contract: 1 to 6 first, then 7 to 10. Assumes nothing.
 use borrow.Author.Needs.{needs}
 use mathlib.Core.Path.{_≡_, sym, ap, subst, _∙_}
 use mathlib.Core.Bool.{Bool}
-use mathlib.Core.List.{[], _∷_, _++_}
 use native.Mathlib.Omega.{arith}
 use lib.Dec.{T}
-use Rattle.model.specs.Layout.{lent}
-use Rattle.model.specs.Refusal.{refused-6, lowest-number, table-cases}
-use Rattle.model.proofs.Refusal.{board-long}
-use Rattle.refusals.proofs.Message.{board-accepted, none-valid, message-first, message-invalid, message-10, message-0}
+use Rattle.model.specs.Layout.{Operators, Rides, Stamps, lent}
+use Rattle.model.specs.Refusal.{first-number, board-cases}
+use Rattle.model.proofs.Parts.{board-long}
+use Rattle.refusals.proofs.Message.{board-accepted, message-board, message-entry}
 use Rattle.refusals.proofs.message_number.Statement.{statement}
 use Rattle.refusals.proofs.message_number.Tie as tie
 
 short-board-requires : tie.Need-short-board-requires
 short-board-requires c κs = search needs
 
-stamped-number-requires : tie.Need-stamped-number-requires
-stamped-number-requires c κs = let a = c .before .before .before .before .before .args in
-    let b = lent (a .head) (a .operators .now) (a .rides .now) (a .stamps .now) (a .index .now) in
-    λ e. let l = board-long b (λ t. subst T (sym (c .short-board .ensures) ∙ e) t) in (l .0, l .1, l .2)
+board-number-requires : tie.Need-board-number-requires
+board-number-requires c κs = let a = c .before .before .before .before .before .args in
+    λ e. let l = board-long (lent (a .head) (a .operators .now) (a .rides .now) (a .stamps .now) (a .index .now)) (λ t. subst T (sym (c .short-board .ensures) ∙ e) t) in (l Operators, l Rides, l Stamps)
 
 returns : tie.Need-returns
 returns c = let a = c .before .before .before .before .before .before .before .args in
     let b = lent (a .head) (a .operators .now) (a .rides .now) (a .stamps .now) (a .index .now) in
-    let e = c .before .stamped-number .ensures (a .index .now) ∙ ap (λ (z : Bool). lowest-number (table-cases (a .head) z (a .operators .now) (a .rides .now) ++ (6, refused-6 b) ∷ [])) (c .before .before .short-board .ensures) in
-    message-first b (a .message) _ e (omega arith)
+    message-board b (a .message) _ (c .before .board-number .ensures (a .index .now) ∙ ap (λ (z : Bool). first-number (board-cases b z)) (c .before .before .short-board .ensures)) (omega arith)
 
-valid-number-requires : tie.Need-valid-number-requires
-valid-number-requires c κs = search needs
+entry-number-requires : tie.Need-entry-number-requires
+entry-number-requires c κs = let a = c .before .before .before .before .before .before .before .args in
+    let b = lent (a .head) (a .operators .now) (a .rides .now) (a .stamps .now) (a .index .now) in
+    let z : c .before .board-number .result ≡ 0 = omega arith in
+    board-accepted b _ (sym (c .before .board-number .ensures (a .index .now) ∙ ap (λ (t : Bool). first-number (board-cases b t)) (c .before .before .short-board .ensures)) ∙ z)
 
 returns-2 : tie.Need-returns-2
-returns-2 c = let a = c .before .before .before .before .before .before .before .before .before .args in
+returns-2 c = let a = c .before .before .before .before .before .before .before .before .args in
     let b = lent (a .head) (a .operators .now) (a .rides .now) (a .stamps .now) (a .index .now) in
-    let e = c .before .before .before .stamped-number .ensures (a .index .now) ∙ ap (λ (z : Bool). lowest-number (table-cases (a .head) z (a .operators .now) (a .rides .now) ++ (6, refused-6 b) ∷ [])) (c .before .before .before .before .short-board .ensures) in
-    message-invalid b (a .message) _ e (omega arith) _ (c .before .valid-number .ensures) (omega arith)
-
-not-later-requires : tie.Need-not-later-requires
-not-later-requires c κs = let a = c .before .before .before .before .before .before .before .before .before .args in
-    let b = lent (a .head) (a .operators .now) (a .rides .now) (a .stamps .now) (a .index .now) in
-    let e = c .before .before .before .stamped-number .ensures (a .index .now) ∙ ap (λ (z : Bool). lowest-number (table-cases (a .head) z (a .operators .now) (a .rides .now) ++ (6, refused-6 b) ∷ [])) (c .before .before .before .before .short-board .ensures) in
-    let z : c .before .before .before .stamped-number .result ≡ 0 = omega arith in
-    let y : c .before .valid-number .result ≡ 0 = omega arith in
-    let ok = board-accepted b _ (sym e ∙ z) in
-    let v = none-valid (a .head) (a .message) (sym (c .before .valid-number .ensures) ∙ y) in
-    (ok .0, ok .1, v .operator, v .ride)
-
-returns-3 : tie.Need-returns-3
-returns-3 c = let a = c .before .before .before .before .before .before .before .before .before .before .before .args in
-    let b = lent (a .head) (a .operators .now) (a .rides .now) (a .stamps .now) (a .index .now) in
-    let e = c .before .before .before .before .before .stamped-number .ensures (a .index .now) ∙ ap (λ (z : Bool). lowest-number (table-cases (a .head) z (a .operators .now) (a .rides .now) ++ (6, refused-6 b) ∷ [])) (c .before .before .before .before .before .before .short-board .ensures) in
-    message-10 b (a .message) _ e (omega arith) _ (c .before .before .before .valid-number .ensures) (omega arith) (sym (c .before .not-later .ensures (a .index .now)) ∙ c .if3 .taken)
-
-returns-4 : tie.Need-returns-4
-returns-4 c = let a = c .before .before .before .before .before .before .before .before .before .before .before .args in
-    let b = lent (a .head) (a .operators .now) (a .rides .now) (a .stamps .now) (a .index .now) in
-    let e = c .before .before .before .before .before .stamped-number .ensures (a .index .now) ∙ ap (λ (z : Bool). lowest-number (table-cases (a .head) z (a .operators .now) (a .rides .now) ++ (6, refused-6 b) ∷ [])) (c .before .before .before .before .before .before .short-board .ensures) in
-    message-0 b (a .message) _ e (omega arith) _ (c .before .before .before .valid-number .ensures) (omega arith) (sym (c .before .not-later .ensures (a .index .now)) ∙ c .if3 .left)
+    c .entry-number .ensures (a .index .now) ∙
+    message-entry b (a .message) _ (c .before .before .board-number .ensures (a .index .now) ∙ ap (λ (z : Bool). first-number (board-cases b z)) (c .before .before .before .short-board .ensures)) (omega arith)
 
 pub message-number-spec : {M : Type 1} → statement M
 message-number-spec =
     tie.close
-    (tie.spec
-    short-board-requires
-    stamped-number-requires
-    returns
-    valid-number-requires
-    returns-2
-    not-later-requires
-    returns-3
-    returns-4)
+    (tie.spec short-board-requires board-number-requires returns entry-number-requires returns-2)

@@ -4,7 +4,7 @@ use mathlib.Core.Path.{sym, ap, _∙_, subst}
 use mathlib.Core.Bool.{Bool}
 use native.Mathlib.Omega.{arith}
 use lib.Dec.{T}
-use Rattle.model.specs.Refusal.{lowest-number, table-cases}
+use Rattle.model.specs.Refusal.{first-number, table-cases}
 use Rattle.refusals.proofs.Chain.{alpha-zero, beta-zero, short-parts, table-long, peel-long, peel-table, peel-11, peel-12, peel-0}
 use Rattle.refusals.proofs.peel_number.Statement.{statement}
 use Rattle.refusals.proofs.peel_number.Tie as tie
@@ -18,32 +18,32 @@ table-number-requires c κs = let a = c .before .before .before .before .args in
 
 returns : tie.Need-returns
 returns c = let a = c .before .before .before .before .before .before .args in
-    let e = c .before .table-number .ensures ∙ ap (λ (z : Bool). lowest-number (table-cases (a .head) z (a .operators .now) (a .rides .now))) (c .before .before .short-peel .ensures) in
+    let e = c .before .table-number .ensures ∙ ap (λ (z : Bool). first-number (table-cases (a .head) z (a .operators .now) (a .rides .now))) (c .before .before .short-peel .ensures) in
     peel-table (a .head) (a .operators .now) (a .rides .now) (a .marks .now) (a .alpha) (a .beta) _ e (omega arith)
 
 returns-2 : tie.Need-returns-2
 returns-2 c = let a = c .before .before .before .before .before .before .before .args in
-    let e = c .before .before .table-number .ensures ∙ ap (λ (z : Bool). lowest-number (table-cases (a .head) z (a .operators .now) (a .rides .now))) (c .before .before .before .short-peel .ensures) in
+    let e = c .before .before .table-number .ensures ∙ ap (λ (z : Bool). first-number (table-cases (a .head) z (a .operators .now) (a .rides .now))) (c .before .before .before .short-peel .ensures) in
     peel-11 (a .head) (a .operators .now) (a .rides .now) (a .marks .now) (a .alpha) (a .beta) _ e (omega arith) (alpha-zero (a .alpha) (a .beta) (omega arith))
 
 returns-3 : tie.Need-returns-3
 returns-3 c = let a = c .before .before .before .before .before .before .before .before .args in
-    let e = c .before .before .before .table-number .ensures ∙ ap (λ (z : Bool). lowest-number (table-cases (a .head) z (a .operators .now) (a .rides .now))) (c .before .before .before .before .short-peel .ensures) in
+    let e = c .before .before .before .table-number .ensures ∙ ap (λ (z : Bool). first-number (table-cases (a .head) z (a .operators .now) (a .rides .now))) (c .before .before .before .before .short-peel .ensures) in
     peel-11 (a .head) (a .operators .now) (a .rides .now) (a .marks .now) (a .alpha) (a .beta) _ e (omega arith) (beta-zero (a .alpha) (a .beta) (omega arith))
 
 bad-marks-requires : tie.Need-bad-marks-requires
 bad-marks-requires c κs = let a = c .before .before .before .before .before .before .before .before .args in
-    let e = c .before .before .before .table-number .ensures ∙ ap (λ (z : Bool). lowest-number (table-cases (a .head) z (a .operators .now) (a .rides .now))) (c .before .before .before .before .short-peel .ensures) in
+    let e = c .before .before .before .table-number .ensures ∙ ap (λ (z : Bool). first-number (table-cases (a .head) z (a .operators .now) (a .rides .now))) (c .before .before .before .before .short-peel .ensures) in
     peel-long (a .head) (a .operators .now) (a .rides .now) (a .marks .now) (table-long (a .head) (short-parts (a .head) (a .operators .now) (a .rides .now) (a .marks .now)) (a .operators .now) (a .rides .now) (sym e ∙ omega arith)) .2
 
 returns-4 : tie.Need-returns-4
 returns-4 c = let a = c .before .before .before .before .before .before .before .before .before .before .args in
-    let e = c .before .before .before .before .before .table-number .ensures ∙ ap (λ (z : Bool). lowest-number (table-cases (a .head) z (a .operators .now) (a .rides .now))) (c .before .before .before .before .before .before .short-peel .ensures) in
+    let e = c .before .before .before .before .before .table-number .ensures ∙ ap (λ (z : Bool). first-number (table-cases (a .head) z (a .operators .now) (a .rides .now))) (c .before .before .before .before .before .before .short-peel .ensures) in
     peel-12 (a .head) (a .operators .now) (a .rides .now) (a .marks .now) (a .alpha) (a .beta) _ e (omega arith) (omega arith) (omega arith) (sym (c .before .bad-marks .ensures) ∙ c .if4 .taken)
 
 returns-5 : tie.Need-returns-5
 returns-5 c = let a = c .before .before .before .before .before .before .before .before .before .before .args in
-    let e = c .before .before .before .before .before .table-number .ensures ∙ ap (λ (z : Bool). lowest-number (table-cases (a .head) z (a .operators .now) (a .rides .now))) (c .before .before .before .before .before .before .short-peel .ensures) in
+    let e = c .before .before .before .before .before .table-number .ensures ∙ ap (λ (z : Bool). first-number (table-cases (a .head) z (a .operators .now) (a .rides .now))) (c .before .before .before .before .before .before .short-peel .ensures) in
     peel-0 (a .head) (a .operators .now) (a .rides .now) (a .marks .now) (a .alpha) (a .beta) _ e (omega arith) (omega arith) (omega arith) (sym (c .before .bad-marks .ensures) ∙ c .if4 .left)
 
 pub peel-number-spec : {M : Type 1} → statement M

@@ -1,7 +1,8 @@
 -- `refusals::query_number` meets its contract: its numbers in ascending order. Assumes nothing.
 use borrow.Author.Needs.{needs}
 use native.Mathlib.Omega.{arith}
-use Rattle.refusals.proofs.Chain.{product-fits, query-lowest}
+use Rattle.pairs.proofs.Place.{product-fits}
+use Rattle.refusals.proofs.Chain.{query-first}
 use Rattle.refusals.proofs.query_number.Statement.{statement}
 use Rattle.refusals.proofs.query_number.Tie as tie
 
@@ -11,36 +12,36 @@ cast-n c = search needs
 cast-m : tie.Need-cast-m
 cast-m c = search needs
 
-lowest-requires : tie.Need-lowest-requires
-lowest-requires c κs = search needs
+first-requires : tie.Need-first-requires
+first-requires c κs = search needs
 
-lowest-requires-2 : tie.Need-lowest-requires-2
-lowest-requires-2 c κs = search needs
+first-requires-2 : tie.Need-first-requires-2
+first-requires-2 c κs = search needs
 
-add-lowest : tie.Need-add-lowest
-add-lowest c = search needs
+add-first : tie.Need-add-first
+add-first c = search needs
 
-mul-lowest : tie.Need-mul-lowest
-mul-lowest c = let h = c .before .before .before .before .before .before .args .head in omega (arith, product-fits (h .operators) (h .rides) (omega arith) (omega arith), product-fits (h .rides) (h .rides) (omega arith) (omega arith))
+mul-first : tie.Need-mul-first
+mul-first c = let h = c .before .before .before .before .before .before .args .head in omega (arith, product-fits (h .operators) (h .rides) (omega arith) (omega arith), product-fits (h .rides) (h .rides) (omega arith) (omega arith))
 
-add-lowest-2 : tie.Need-add-lowest-2
-add-lowest-2 c = search needs
+add-first-2 : tie.Need-add-first-2
+add-first-2 c = search needs
 
-lowest-requires-3 : tie.Need-lowest-requires-3
-lowest-requires-3 c κs = search needs
+first-requires-3 : tie.Need-first-requires-3
+first-requires-3 c κs = search needs
 
-lowest-requires-4 : tie.Need-lowest-requires-4
-lowest-requires-4 c κs = search needs
+first-requires-4 : tie.Need-first-requires-4
+first-requires-4 c κs = search needs
 
-lowest-requires-5 : tie.Need-lowest-requires-5
-lowest-requires-5 c κs = search needs
+first-requires-5 : tie.Need-first-requires-5
+first-requires-5 c κs = search needs
 
-lowest-requires-6 : tie.Need-lowest-requires-6
-lowest-requires-6 c κs = search needs
+first-requires-6 : tie.Need-first-requires-6
+first-requires-6 c κs = search needs
 
 returns : tie.Need-returns
 returns c = let a = c .before .before .before .before .before .before .before .before .before .before .before .before .args in
-    query-lowest (a .head) (a .index .now) (a .alpha) (a .beta) (a .marks .now) _ _ _ _ _ _ (c .before .before .before .before .before .before .before .lowest .ensures) (c .before .before .before .before .before .before .lowest2 .ensures) (c .before .before .before .before .before .lowest3 .ensures) (c .before .before .before .before .lowest4 .ensures) (c .before .lowest5 .ensures) (c .lowest6 .ensures)
+    query-first (a .head) (a .index .now) (a .alpha) (a .beta) (a .marks .now) _ _ _ _ _ _ (c .before .before .before .before .before .before .before .first .ensures) (c .before .before .before .before .before .before .first2 .ensures) (c .before .before .before .before .before .first3 .ensures) (c .before .before .before .before .first4 .ensures) (c .before .first5 .ensures) (c .first6 .ensures)
 
 pub query-number-spec : {M : Type 1} → statement M
 query-number-spec =
@@ -48,13 +49,13 @@ query-number-spec =
     (tie.spec
     cast-n
     cast-m
-    lowest-requires
-    lowest-requires-2
-    add-lowest
-    mul-lowest
-    add-lowest-2
-    lowest-requires-3
-    lowest-requires-4
-    lowest-requires-5
-    lowest-requires-6
+    first-requires
+    first-requires-2
+    add-first
+    mul-first
+    add-first-2
+    first-requires-3
+    first-requires-4
+    first-requires-5
+    first-requires-6
     returns)

@@ -1,8 +1,10 @@
 -- `refusals::short_board` meets its contract: 3 of a board, part by part. Assumes nothing.
 use borrow.Author.Needs.{needs}
 use native.Mathlib.Omega.{arith}
-use Rattle.model.specs.Layout.{lent}
-use Rattle.refusals.proofs.Chain.{product-fits, short-operators, short-rides, short-stamps, short-index}
+use Rattle.model.specs.Layout.{Operators, Rides, Stamps, Index}
+use Rattle.model.proofs.Parts.{by-part}
+use Rattle.pairs.proofs.Place.{product-fits}
+use Rattle.refusals.proofs.Chain.{short-at, short-nowhere}
 use Rattle.refusals.proofs.short_board.Statement.{statement}
 use Rattle.refusals.proofs.short_board.Tie as tie
 
@@ -16,24 +18,37 @@ mul-places : tie.Need-mul-places
 mul-places c = let a = c .before .before .args in omega (arith, product-fits (a .head .operators) (a .head .rides) (omega arith) (omega arith))
 
 returns : tie.Need-returns
-returns c = let a = c .before .before .before .args in let b = lent (a .head) (a .operators .now) (a .rides .now) (a .stamps .now) (a .index .now) in short-operators b (omega arith)
+returns c = short-at _ Operators (omega arith)
 
 returns-2 : tie.Need-returns-2
-returns-2 c = let a = c .before .before .before .before .args in let b = lent (a .head) (a .operators .now) (a .rides .now) (a .stamps .now) (a .index .now) in short-rides b (omega arith) (omega arith)
+returns-2 c = short-at _ Rides (omega arith)
 
 returns-3 : tie.Need-returns-3
-returns-3 c = let a = c .before .before .before .before .before .args in let b = lent (a .head) (a .operators .now) (a .rides .now) (a .stamps .now) (a .index .now) in short-stamps b (omega arith) (omega arith) (omega arith)
+returns-3 c = short-at _ Stamps (omega arith)
 
-add-result : tie.Need-add-result
-add-result c = search needs
+add-if4 : tie.Need-add-if4
+add-if4 c = search needs
 
-mul-result : tie.Need-mul-result
-mul-result c = let a = c .before .before .before .before .before .args in omega (arith, product-fits (a .head .operators) (a .head .rides) (omega arith) (omega arith), product-fits (a .head .rides) (a .head .rides) (omega arith) (omega arith))
+mul-if4 : tie.Need-mul-if4
+mul-if4 c = let a = c .before .before .before .before .before .args in omega (arith, product-fits (a .head .operators) (a .head .rides) (omega arith) (omega arith), product-fits (a .head .rides) (a .head .rides) (omega arith) (omega arith))
 
 returns-4 : tie.Need-returns-4
-returns-4 c = let a = c .before .before .before .before .before .args in let b = lent (a .head) (a .operators .now) (a .rides .now) (a .stamps .now) (a .index .now) in short-index b (omega arith) (omega arith) (omega arith)
+returns-4 c = short-at _ Index (omega arith)
+
+returns-5 : tie.Need-returns-5
+returns-5 c = short-nowhere _ (by-part _ (omega arith) (omega arith) (omega arith) (omega arith))
 
 pub short-board-spec : {M : Type 1} → statement M
 short-board-spec =
     tie.close
-    (tie.spec cast-n cast-m mul-places returns returns-2 returns-3 add-result mul-result returns-4)
+    (tie.spec
+    cast-n
+    cast-m
+    mul-places
+    returns
+    returns-2
+    returns-3
+    add-if4
+    mul-if4
+    returns-4
+    returns-5)

@@ -1,14 +1,14 @@
 -- `peeling::State::lowest_short` meets its contract. The loop's invariant: none of the nodes passed falls short. Assumes nothing.
-use mathlib.Core.Path.{_≡_, sym, ap, _∙_, subst}
-use mathlib.Core.Bool.{_&&_}
+use mathlib.Core.Path.{_≡_, sym, _∙_, subst}
+use mathlib.Core.List.{List}
 use Prim.Native.Nat.{ℕ, _-_, _≤_, _<_}
 use native.Mathlib.Omega.{arith}
-use lib.Dec.{T, ltb}
-use lib.ListN.{getD}
+use lib.Dec.{T}
 use borrow.Author.Needs.{needs}
 use borrow.Author.Count.{below-more}
-use Rattle.model.specs.Graph.{Graph, nodes, limits, marked, short}
+use Rattle.model.specs.Graph.{Graph, nodes, short}
 use Rattle.model.proofs.Count.{lowest-only}
+use Rattle.limits.specs.Limits.{limit-of}
 use Rattle.peeling.specs.declared.State.{State}
 use Rattle.peeling.specs.Steps.{StateOf}
 use Rattle.peeling.proofs.Steps.{state-short}
@@ -16,25 +16,22 @@ use Rattle.peeling.proofs.State.lowest_short.Statement.{statement}
 use Rattle.peeling.proofs.State.lowest_short.Tie as tie
 
 -- none below x falls short
-abbrev Passed : ℕ → ℕ → State → ℕ → Type 0
-Passed alpha beta s x =
-    (g : Graph) → StateOf g s → (y : ℕ) → y < x → T (short g (limits g alpha beta) (s .marks) y) → ⊥
+abbrev Passed : List ℕ → State → ℕ → Type 0
+Passed limits s x = (g : Graph) → StateOf g s → (y : ℕ) → y < x → T (short g (limit-of limits) (s .marks) y) → ⊥
 
 abbrev Inv-loop : tie.InvT-loop
-Inv-loop alpha beta self operators rides nodes x₀ x = (x ≤ nodes) × Passed alpha beta self x
+Inv-loop limits self operators rides nodes x₀ x = (x ≤ nodes) × Passed limits self x
 
 abbrev μ-loop : tie.MeasureT-loop
-μ-loop alpha beta self operators rides nodes x₀ x = nodes - x
+μ-loop limits self operators rides nodes x₀ x = nodes - x
 
 -- what the test of node x says
-tested : (c : tie.After-falls-short Inv-loop μ-loop) (g : Graph) → (let l = c .before .before .before .before .before in let a = l .before .args in StateOf g (a .t1) → short g (limits g (a .alpha) (a .beta)) (a .t1 .marks) (l .loop .x) ≡ c .falls-short .result)
+tested : (c : tie.After-falls-short Inv-loop μ-loop) (g : Graph) → (let l = c .before .before .before .before .before in let a = l .before .before .args in StateOf g (a .t1) → short g (limit-of (a .limits .now)) (a .t1 .marks) (l .loop .x) ≡ c .falls-short .result)
 tested c g o =
     let l = c .before .before .before .before .before in
-    let a = l .before .args in
+    let a = l .before .before .args in
     let x = l .loop .x in
-    state-short g (limits g (a .alpha) (a .beta)) (a .t1) o x (omega (arith, o .operators, o .rides)) ∙
-    ap (λ (n : ℕ). marked (a .t1 .marks) x && ltb (getD (a .t1 .degrees) x 0) n) (sym (c .before .limit-of .ensures g (o .operators))) ∙
-    sym (c .falls-short .ensures)
+    state-short g (limit-of (a .limits .now)) (a .t1) o x (omega (arith, o .operators, o .rides)) ∙ sym (c .falls-short .ensures)
 
 cast-operators : tie.Need-cast-operators Inv-loop μ-loop
 cast-operators c = search needs
@@ -57,8 +54,11 @@ element-copy-out-falls-short c = search needs
 element-copy-out-falls-short-2 : tie.Need-element-copy-out-falls-short-2 Inv-loop μ-loop
 element-copy-out-falls-short-2 c = search needs
 
-limit-of-requires : tie.Need-limit-of-requires Inv-loop μ-loop
-limit-of-requires c κs = search needs
+mul-falls-short-2 : tie.Need-mul-falls-short-2 Inv-loop μ-loop
+mul-falls-short-2 c = search needs
+
+shared-slice-read-falls-short : tie.Need-shared-slice-read-falls-short Inv-loop μ-loop
+shared-slice-read-falls-short c = search needs
 
 falls-short-requires : tie.Need-falls-short-requires Inv-loop μ-loop
 falls-short-requires c κs = search needs
@@ -66,8 +66,8 @@ falls-short-requires c κs = search needs
 returns : tie.Need-returns Inv-loop μ-loop
 returns c = λ g o.
     let l = c .before .before .before .before .before .before in
-    let a = l .before .args in
-    sym (lowest-only (short g (limits g (a .alpha) (a .beta)) (a .t1 .marks)) (nodes g) (l .loop .x)
+    let a = l .before .before .args in
+    sym (lowest-only (short g (limit-of (a .limits .now)) (a .t1 .marks)) (nodes g) (l .loop .x)
     (omega (arith, o .operators, o .rides))
     (l .loop .inv .1 g o)
     (λ h. subst T (sym (tested (c .before) g o ∙ c .if1 .taken)) tt))
@@ -83,8 +83,8 @@ loop-again c = (omega arith, λ g o. below-more _ _ (c .before .before .before .
 
 returns-2 : tie.Need-returns-2 Inv-loop μ-loop
 returns-2 c = λ g o.
-    let a = c .before .before .args in
-    sym (lowest-only (short g (limits g (a .alpha) (a .beta)) (a .t1 .marks)) (nodes g) (c .before .loop .x)
+    let a = c .before .before .before .args in
+    sym (lowest-only (short g (limit-of (a .limits .now)) (a .t1 .marks)) (nodes g) (c .before .loop .x)
     (omega (arith, o .operators, o .rides))
     (c .before .loop .inv .1 g o)
     (λ h. absurd (let z : ⊥ = omega (arith, o .operators, o .rides) in z)))
@@ -102,7 +102,8 @@ lowest-short-spec =
     mul-falls-short
     element-copy-out-falls-short
     element-copy-out-falls-short-2
-    limit-of-requires
+    mul-falls-short-2
+    shared-slice-read-falls-short
     falls-short-requires
     returns
     add-x

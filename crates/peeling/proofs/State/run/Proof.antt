@@ -3,19 +3,21 @@ use borrow.Author.Needs.{needs}
 use mathlib.Core.Path.{sym}
 use Prim.Native.Nat.{_-_}
 use native.Mathlib.Omega.{arith}
-use Rattle.model.specs.Graph.{Graph, limits}
+use Rattle.model.specs.Graph.{Graph}
 use Rattle.model.proofs.Peel.{settled-lowest, lowest-marked, unsettled-lowest-lt}
-use Rattle.peeling.specs.Steps.{Tables, StateOf}
+use Rattle.limits.specs.Limits.{limit-of}
+use Rattle.tables.specs.Table.{Tables}
+use Rattle.peeling.specs.Steps.{StateOf}
 use Rattle.peeling.proofs.Run.{Running, running-start, running-step, running-settled, running-spent}
 use Rattle.peeling.proofs.State.run.Statement.{statement}
 use Rattle.peeling.proofs.State.run.Tie as tie
 
 abbrev Inv-loop : tie.InvT-loop
-Inv-loop rows columns alpha beta allowed operators rides nodes state₀ state =
-    (g : Graph) → Tables g rows columns → StateOf g state₀ → Running g (limits g alpha beta) allowed state₀ state
+Inv-loop rows columns limits allowed operators rides nodes state₀ state =
+    (g : Graph) → Tables g rows columns → StateOf g state₀ → Running g (limit-of limits) allowed state₀ state
 
 abbrev μ-loop : tie.MeasureT-loop
-μ-loop rows columns alpha beta allowed operators rides nodes state₀ state = allowed - state .steps
+μ-loop rows columns limits allowed operators rides nodes state₀ state = allowed - state .steps
 
 cast-operators : tie.Need-cast-operators Inv-loop μ-loop
 cast-operators c = search needs
@@ -27,14 +29,15 @@ add-nodes : tie.Need-add-nodes Inv-loop μ-loop
 add-nodes c = search needs
 
 loop-holds : tie.Need-loop-holds Inv-loop μ-loop
-loop-holds c = λ g t o. running-start g _ _ _ o (c .before .before .before .before .pre .1)
+loop-holds c = λ g t o. running-start g _ _ _ o (c .before .before .before .before .before .pre .1 .0)
 
 lowest-short-requires : tie.Need-lowest-short-requires Inv-loop μ-loop
 lowest-short-requires c κs =
     let l = c .before .before in
-    let p = l .before .before .before .before .before .pre .0 in
+    let s = l .before .before .before .before .before .before in
+    let p = s .pre .0 in
     let w = l .loop .inv (p .0) (p .1) (p .2) .state in
-    omega (arith, w .operators, w .rides, p .1 .most-operators, p .1 .most-rides)
+    (omega (arith, w .operators, w .rides, p .1 .by-ride .wide, p .1 .by-operator .wide), omega (arith, w .operators, w .rides, p .2 .operators, p .2 .rides, s .pre .1 .1))
 
 returns : tie.Need-returns Inv-loop μ-loop
 returns c = λ g t o.
@@ -45,7 +48,7 @@ returns c = λ g t o.
 step-requires : tie.Need-step-requires Inv-loop μ-loop
 step-requires c κs =
     let l = c .before .before .before .before in
-    let a = l .before .before .before .before .before in
+    let a = l .before .before .before .before .before .before in
     let p = a .pre .0 in
     let w = l .loop .inv (p .0) (p .1) (p .2) in
     let e = c .before .lowest-short .ensures (p .0) (w .state) in (
@@ -60,7 +63,7 @@ step-requires c κs =
 loop-less : tie.Need-loop-less Inv-loop μ-loop
 loop-less c =
     let l = c .before .before .before .before .before in
-    let p = l .before .before .before .before .before .pre .0 in
+    let p = l .before .before .before .before .before .before .pre .0 in
     let w = l .loop .inv (p .0) (p .1) (p .2) in
     omega (arith, c .step .ensures (p .0) (p .1) (w .state) .steps)
 

@@ -3,9 +3,10 @@ use borrow.Author.Needs.{needs}
 use mathlib.Core.Path.{sym, ap}
 use native.Mathlib.Omega.{arith}
 use Rattle.model.specs.Count.{bit}
-use Rattle.model.specs.Graph.{limits, settled}
+use Rattle.model.specs.Graph.{settled}
 use Rattle.model.proofs.Count.{test-true, test-false}
 use Rattle.model.proofs.Peel.{settled-lowest, unsettled-lowest-lt}
+use Rattle.limits.specs.Limits.{limit-of}
 use Rattle.peeling.proofs.State.settled.Statement.{statement}
 use Rattle.peeling.proofs.State.settled.Tie as tie
 
@@ -23,15 +24,15 @@ add-if1 c = search needs
 
 returns : tie.Need-returns
 returns c = λ g o.
-    let a = c .before .before .before .before .args in
-    let l = limits g (a .alpha) (a .beta) in
+    let a = c .before .before .before .before .before .args in
+    let l = limit-of (a .limits .now) in
     let n = unsettled-lowest-lt g l (a .self .marks) (omega (arith, c .before .lowest-short .ensures g o, o .operators, o .rides)) in
     sym (ap bit (test-false (settled g l (a .self .marks)) n))
 
 returns-2 : tie.Need-returns-2
 returns-2 c = λ g o.
-    let a = c .before .before .before .before .args in
-    let l = limits g (a .alpha) (a .beta) in
+    let a = c .before .before .before .before .before .args in
+    let l = limit-of (a .limits .now) in
     let t = settled-lowest g l (a .self .marks) (omega (arith, c .before .lowest-short .ensures g o, o .operators, o .rides)) in
     sym (ap bit (test-true (settled g l (a .self .marks)) t))
 

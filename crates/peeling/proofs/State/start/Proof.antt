@@ -4,7 +4,7 @@ use mathlib.Core.Path.{_≡_, refl, ap, _∙_}
 use Prim.Native.Nat.{ℕ, _+_}
 use native.Mathlib.Omega.{arith}
 use Rattle.model.specs.Graph.{nodes}
-use Rattle.peeling.specs.Steps.{padded}
+use Rattle.peeling.specs.Steps.{first-marks}
 use Rattle.peeling.proofs.Rows.{ready-kept}
 use Rattle.peeling.proofs.State.start.Statement.{statement}
 use Rattle.peeling.proofs.State.start.Tie as tie
@@ -35,7 +35,7 @@ fill-degrees-requires c κs =
     let s = c .before .before .before .before .before .before .before .before .before .before in
     let o = s .pre .1 in (
       (s .pre .0, ready-kept _ _ _ _ _ _ o _ _ (c .before .before .before .copy-marks .ensures)),
-      omega (arith, o .operators, o .rides, o .tables .most-operators, o .tables .most-rides),
+      omega (arith, o .operators, o .rides, o .tables .by-ride .wide, o .tables .by-operator .wide),
     )
 
 returns : tie.Need-returns
@@ -45,7 +45,7 @@ returns c = λ g o.
     let e : a .head .operators + a .head .rides ≡ nodes g = omega (arith, o .operators, o .rides) in
     record {
       steps = refl;
-      marks = copied ∙ ap (λ (k : ℕ). padded k (a .marks .now)) e;
+      marks = copied ∙ ap (λ (k : ℕ). first-marks k (a .marks .now)) e;
       state = record {
         operators = o .operators;
         rides = o .rides;

@@ -2,17 +2,17 @@
 use borrow.Author.Needs.{needs}
 use native.Mathlib.Omega.{arith}
 use borrow.Author.Tests.{lt-ltb, le-ltb, eq-eqb, ne-eqb}
-use Rattle.model.specs.Refusal.{lowest-number}
+use Rattle.model.specs.Refusal.{first-number}
 use Rattle.report.proofs.Sizes.{few-pairs}
 use Rattle.report.proofs.input.head_refusal.Statement.{statement}
 use Rattle.report.proofs.input.head_refusal.Tie as tie
 
 returns : tie.Need-returns
-unfolding lowest-number
+unfolding first-number
 returns c = simp (le-ltb _ _ (c .before .before .pre), lt-ltb _ _ (c .if1 .taken))
 
 returns-2 : tie.Need-returns-2
-unfolding lowest-number
+unfolding first-number
 returns-2 c =
     let first = c .before .before in
     simp (le-ltb _ _ (first .before .before .pre), le-ltb _ _ (first .if1 .left), lt-ltb _ _ (c .if2 .taken))
@@ -23,7 +23,7 @@ mul-if3 c =
     omega (arith, few-pairs (h .operators) (h .rides) (omega arith) (omega arith))
 
 returns-3 : tie.Need-returns-3
-unfolding lowest-number
+unfolding first-number
 returns-3 c =
     let second = c .before .before .before in
     let first = second .before .before in
@@ -39,7 +39,7 @@ add-if4 : tie.Need-add-if4
 add-if4 c = search needs
 
 returns-4 : tie.Need-returns-4
-unfolding lowest-number
+unfolding first-number
 returns-4 c =
     let third = c .before .before in
     let second = third .before .before .before in
@@ -53,7 +53,7 @@ returns-4 c =
     )
 
 returns-5 : tie.Need-returns-5
-unfolding lowest-number
+unfolding first-number
 returns-5 c =
     let third = c .before .before in
     let second = third .before .before .before in

@@ -1,0 +1,4 @@
+pub mod Entering
+pub mod Taking
+pub mod Once
+pub mod List

@@ -1,0 +1,3 @@
+pub mod Raising
+pub mod Rows
+pub mod Filled

@@ -1,0 +1,315 @@
+// One row of the index, from the dense tables of clearances.
+ghost use mathlib.Core.Path.{_≡_};
+ghost use Prim.Native.Nat.{ℕ, _+_, _<_, _≤_};
+ghost use lib.ListN.{length, getD};
+ghost use Rattle.model.specs.Count.{count};
+ghost use Rattle.model.specs.Graph.{row as levels-row};
+ghost use Rattle.model.specs.Layout.{graph, mark-places};
+ghost use Rattle.pairs.specs.Accepted.{AcceptedPairs};
+ghost use Rattle.tables.specs.Table.{Table, Tables, ZeroTables, joined, table-graph};
+ghost use Rattle.row.specs.Row.{work, Fits, Raising, Settled, Rounded, Lower, Least, Start, Everybody, Tabulated};
+use model::Head;
+
+// Sweeps the rides and then the operators once.
+fn round(
+    operators: &mut [u8],
+    operator_degrees: &mut [u8],
+    rides: &mut [u8],
+    ride_degrees: &mut [u8],
+    row: &mut [u16],
+    by_operator: &[u8],
+    by_ride: &[u8],
+    alpha: u8,
+    beta: u8,
+) -> usize
+    requires { ⌜
+        (1 ≤ alpha) × (1 ≤ beta)
+        × Fits (length (now operators)) (length (now rides)) (now «by_operator») (now «by_ride»)
+        (work (now operators) (now «operator_degrees») (now rides) (now «ride_degrees») (now row))
+        ⌝ }
+    requires { ⌜
+        Raising (table-graph (length (now operators)) (length (now rides)) (now «by_operator»)) alpha beta
+        (work (now operators) (now «operator_degrees») (now rides) (now «ride_degrees») (now row))
+        ⌝ }
+    ensures { λ r. ⌜
+        Rounded (table-graph (length (now (operators .entry))) (length (now (rides .entry))) (now («by_operator» .entry))) alpha beta
+        (now (operators .entry)) r
+        (work (now (operators .exit)) (now («operator_degrees» .exit)) (now (rides .exit)) (now («ride_degrees» .exit)) (now (row .exit)))
+        ⌝ }
+{
+    let n = operators.len();
+    let end = n + rides.len();
+    let level = (beta - 1) as u16;
+    sweeps::sweep(
+        rides,
+        ride_degrees,
+        beta,
+        &mut row[n..end],
+        level,
+        operator_degrees,
+        by_ride,
+        200,
+    );
+    sweeps::sweep(
+        operators,
+        operator_degrees,
+        alpha,
+        &mut row[0..n],
+        level,
+        ride_degrees,
+        by_operator,
+        60,
+    )
+}
+
+// Removes whoever falls short of (alpha, beta), until nobody does; the level of those removed is beta - 1.
+fn settle(
+    operators: &mut [u8],
+    operator_degrees: &mut [u8],
+    rides: &mut [u8],
+    ride_degrees: &mut [u8],
+    row: &mut [u16],
+    by_operator: &[u8],
+    by_ride: &[u8],
+    alpha: u8,
+    beta: u8,
+)
+    requires { ⌜
+        (1 ≤ alpha) × (1 ≤ beta)
+        × Fits (length (now operators)) (length (now rides)) (now «by_operator») (now «by_ride»)
+        (work (now operators) (now «operator_degrees») (now rides) (now «ride_degrees») (now row))
+        ⌝ }
+    requires { ⌜
+        Raising (table-graph (length (now operators)) (length (now rides)) (now «by_operator»)) alpha beta
+        (work (now operators) (now «operator_degrees») (now rides) (now «ride_degrees») (now row))
+        ⌝ }
+    ensures { λ _. ⌜
+        Raising (table-graph (length (now (operators .entry))) (length (now (rides .entry))) (now («by_operator» .entry))) alpha beta
+        (work (now (operators .exit)) (now («operator_degrees» .exit)) (now (rides .exit)) (now («ride_degrees» .exit)) (now (row .exit)))
+        × Settled (table-graph (length (now (operators .entry))) (length (now (rides .entry))) (now («by_operator» .entry))) alpha beta
+        (work (now (operators .exit)) (now («operator_degrees» .exit)) (now (rides .exit)) (now («ride_degrees» .exit)) (now (row .exit)))
+        ⌝ }
+{
+    loop {
+        if round(
+            operators,
+            operator_degrees,
+            rides,
+            ride_degrees,
+            row,
+            by_operator,
+            by_ride,
+            alpha,
+            beta,
+        )
+            == 0
+        {
+            return;
+        }
+    }
+}
+
+// The lower of low and the degree of a node, where it is kept.
+fn lower(kept: u8, degree: u8, low: u8) -> u8
+    ensures { λ r. ⌜ Lower kept degree low r ⌝ }
+{
+    if kept != 1 {
+        return low;
+    }
+    if low <= degree {
+        return low;
+    }
+    degree
+}
+
+// The least degree of those kept, 255 where none is.
+fn least(kept: &[u8], degrees: &[u8]) -> u8
+    requires { ⌜ length (now kept) ≤ length (now degrees) ⌝ }
+    ensures { λ r. ⌜ Least (length (now (kept .entry))) (now (kept .entry)) (now (degrees .entry)) r ⌝ }
+{
+    let n = kept.len();
+    let mut low: u8 = 255;
+    let mut i = 0;
+    while i < n {
+        low = lower(kept[i], degrees[i], low);
+        i += 1;
+    }
+    low
+}
+
+// The row of alpha from all nodes kept: beta is raised to one more than the least degree of a ride, until no ride is kept.
+fn raise(
+    operators: &mut [u8],
+    operator_degrees: &mut [u8],
+    rides: &mut [u8],
+    ride_degrees: &mut [u8],
+    row: &mut [u16],
+    by_operator: &[u8],
+    by_ride: &[u8],
+    alpha: u8,
+)
+    requires { ⌜
+        (1 ≤ alpha)
+        × Fits (length (now operators)) (length (now rides)) (now «by_operator») (now «by_ride»)
+        (work (now operators) (now «operator_degrees») (now rides) (now «ride_degrees») (now row))
+        ⌝ }
+    requires { ⌜
+        Start (table-graph (length (now operators)) (length (now rides)) (now «by_operator»))
+        (work (now operators) (now «operator_degrees») (now rides) (now «ride_degrees») (now row))
+        ⌝ }
+    ensures { λ _. ⌜
+        now (row .exit) ≡ levels-row (table-graph (length (now (operators .entry))) (length (now (rides .entry))) (now («by_operator» .entry))) alpha
+        ⌝ }
+{
+    let mut beta: u8 = 1;
+    loop {
+        settle(
+            operators,
+            operator_degrees,
+            rides,
+            ride_degrees,
+            row,
+            by_operator,
+            by_ride,
+            alpha,
+            beta,
+        );
+        let low = least(rides, ride_degrees);
+        if low == 255 {
+            return;
+        }
+        beta = low + 1;
+    }
+}
+
+// The degrees of the columns of a table: how many of its rows each is joined with.
+fn add_rows(degrees: &mut [u8], table: &[u8], width: usize, height: usize)
+    requires { ⌜ Table (joined (now table) width) height (length (now degrees)) width (now table) × (height ≤ 255) ⌝ }
+    requires { ⌜ ((j : ℕ) → j < length (now degrees) → getD (now degrees) j 0 ≡ 0) ⌝ }
+    ensures { λ _. ⌜
+        ((j : ℕ) → j < length (now (degrees .entry)) → getD (now (degrees .exit)) j 0 ≡ count height (λ i. joined (now (table .entry)) width i j))
+        ⌝ }
+{
+    let n = degrees.len();
+    let mut i = 0;
+    while i < height {
+        let at = i * width;
+        let end = at + n;
+        tables::add(degrees, &table[at..end]);
+        i += 1;
+    }
+}
+
+// The degrees inside everybody.
+pub struct Degrees {
+    pub operators: [u8; 200],
+    pub rides: [u8; 60],
+}
+
+// The degrees of n operators and m rides inside everybody.
+fn everybody(by_operator: &[u8], by_ride: &[u8], n: usize, m: usize) -> Degrees
+    requires { ⌜ Tables (table-graph n m (now «by_operator»)) (now «by_operator») (now «by_ride») ⌝ }
+    ensures { λ r. ⌜ Everybody (table-graph n m (now («by_operator» .entry))) (r .operators) (r .rides) ⌝ }
+{
+    let mut operators = [0u8; 200];
+    let mut rides = [0u8; 60];
+    add_rows(&mut operators[0..n], by_ride, 200, m);
+    add_rows(&mut rides[0..m], by_operator, 60, n);
+    Degrees { operators, rides }
+}
+
+// Fills tables of zeros with the clearances of a pair table; the degrees inside everybody.
+pub fn tabulate(
+    head: Head,
+    operators: &[u16],
+    rides: &[u16],
+    by_operator: &mut [u8],
+    by_ride: &mut [u8],
+) -> Degrees
+    requires { ⌜ AcceptedPairs head (now operators) (now rides) × ZeroTables (now «by_operator») (now «by_ride») ⌝ }
+    ensures { λ r. ⌜
+        Tables (graph head (now (operators .entry)) (now (rides .entry)))
+        (now («by_operator» .exit)) (now («by_ride» .exit)) ×
+        Tabulated (head .operators) (head .rides) (now («by_operator» .exit)) (now («by_ride» .exit)) (r .operators) (r .rides)
+        ⌝ }
+{
+    let n = head.operators as usize;
+    let m = head.rides as usize;
+    tables::fill(head, operators, rides, by_operator, by_ride);
+    everybody(by_operator, by_ride, n, m)
+}
+
+// The row of alpha.
+pub fn fill_row(
+    by_operator: &[u8],
+    by_ride: &[u8],
+    degrees: Degrees,
+    n: usize,
+    m: usize,
+    alpha: u8,
+    row: &mut [u16],
+)
+    requires { ⌜
+        Tabulated n m (now «by_operator») (now «by_ride») (degrees .operators) (degrees .rides) ×
+        (1 ≤ alpha) ×
+        (length (now row) ≡ n + m)
+        ⌝ }
+    ensures { λ _. ⌜ now (row .exit) ≡ levels-row (table-graph n m (now («by_operator» .entry))) alpha ⌝ }
+{
+    let mut operators = [1u8; 200];
+    let mut rides = [1u8; 60];
+    let mut operator_degrees = degrees.operators;
+    let mut ride_degrees = degrees.rides;
+    raise(
+        &mut operators[0..n],
+        &mut operator_degrees[0..n],
+        &mut rides[0..m],
+        &mut ride_degrees[0..m],
+        row,
+        by_operator,
+        by_ride,
+        alpha,
+    );
+}
+
+// The row of alpha over tables of zeros.
+fn row_over(
+    head: Head,
+    operators: &[u16],
+    rides: &[u16],
+    by_operator: &mut [u8],
+    by_ride: &mut [u8],
+    alpha: u8,
+    row: &mut [u16],
+)
+    requires { ⌜
+        AcceptedPairs head (now operators) (now rides) ×
+        ZeroTables (now «by_operator») (now «by_ride») ×
+        (1 ≤ alpha) ×
+        (length (now row) ≡ mark-places head)
+        ⌝ }
+    ensures { λ _. ⌜ now (row .exit) ≡ levels-row (graph head (now (operators .entry)) (now (rides .entry))) alpha ⌝ }
+{
+    let n = head.operators as usize;
+    let m = head.rides as usize;
+    let degrees = tabulate(head, operators, rides, by_operator, by_ride);
+    fill_row(by_operator, by_ride, degrees, n, m, alpha, row);
+}
+
+// Row alpha of the index of a pair table.
+pub fn row_of(head: Head, operators: &[u16], rides: &[u16], alpha: u8, row: &mut [u16])
+    requires { ⌜ AcceptedPairs head (now operators) (now rides) × (1 ≤ alpha) × (length (now row) ≡ mark-places head) ⌝ }
+    ensures { λ _. ⌜ now (row .exit) ≡ levels-row (graph head (now (operators .entry)) (now (rides .entry))) alpha ⌝ }
+{
+    let mut by_operator = [0u8; 12000];
+    let mut by_ride = [0u8; 12000];
+    row_over(
+        head,
+        operators,
+        rides,
+        &mut by_operator,
+        &mut by_ride,
+        alpha,
+        row,
+    );
+}
