@@ -220,6 +220,43 @@ fn run(case: &Case) -> Vec<Line> {
     lines
 }
 
+const BURST: usize = 1000;
+
+/// A message list of taken messages, which fills the index once, beside (a), which rebuilds it after each of them: in each of
+/// some rounds the milliseconds of both.
+fn bursts() -> [Vec<f64>; 2] {
+    let rounds = 5;
+    eprintln!("measures message lists of {BURST}, 200 × 60, 6000 pairs");
+    let case = Case::new(200, 60, 6000, rounds * BURST);
+    let mut memory = Box::new(Memory::new());
+    let mut board = Board::build(memory.parts(), 200, 60, &case.pairs, START).unwrap();
+    let mut lists = Lists::build(200, 60, &case.pairs, START);
+    let mut answers = [1; BURST];
+    let mut times = [const { Vec::new() }; 2];
+    for list in case.messages.chunks(BURST) {
+        let begin = Instant::now();
+        assert!(board.messages(black_box(list), &mut answers).unwrap().iter().all(|answer| answer.is_ok()));
+        times[0].push(begin.elapsed().as_secs_f64() * 1e3);
+        let begin = Instant::now();
+        for one in list {
+            black_box(lists.message(one.kind == board::GRANT, one.operator, one.ride, one.stamp));
+        }
+        times[1].push(begin.elapsed().as_secs_f64() * 1e3);
+        assert!(board.words().3 == lists.index);
+    }
+    times
+}
+
+fn print_bursts() {
+    let most = 0.01;
+    let [library, lists] = bursts();
+    let ratio = median(library.iter().zip(&lists).map(|(library, other)| library / other).collect());
+    let reached = if ratio <= most { "reached" } else { "NOT reached" };
+    println!("A message list of {BURST} taken messages at 200 × 60 and 6,000 pairs, medians of {} rounds:\n", library.len());
+    println!("- library {:.1} ms, (a) {:.0} ms", median(library), median(lists));
+    println!("- at most {most} × (a): {ratio:.4}, {reached}\n");
+}
+
 fn print_lines(lines: &[Line]) {
     println!("| Call | Board | Pairs | library µs | (a) µs | (b) µs | library / (a) | library / (b) |");
     println!("|---|---|---:|---:|---:|---:|---:|---:|");
@@ -263,7 +300,9 @@ fn main() {
     print_goal(&lines, "message", 1, "(a)", 0.4);
     print_goal(&lines, "build", 2, "(b)", 1.1);
     print_goal(&lines, "query", 2, "a Rust loop", 1.1);
-    println!("\nGrowth, with half of all pairs:\n");
+    println!();
+    print_bursts();
+    println!("Growth, with half of all pairs:\n");
     let mut lines = Vec::new();
     for (operators, rides) in [(50, 15), (100, 30), (200, 60)] {
         lines.extend(run(&Case::new(operators, rides, operators as usize * rides as usize / 2, messages)));
