@@ -35,13 +35,14 @@
  *
  * For firmware (docs/INTERFACE.md says more):
  * - x86-64, System V calling convention, SSE2 and no more; no use of the red zone below the stack pointer.
- * - Deepest stack in bytes, measured at 200 x 60 (docs/BENCHMARK.md): build 25,744, query 88, peel 27,040, message
- *   25,824, message list 25,920.
+ * - Deepest stack in bytes, measured at 200 x 60 (docs/BENCHMARK.md): build 25,728, query 88, peel 27,808, message
+ *   25,776, message list 25,792.
  * - No writable data; of the program it needs memcpy, memmove and memset at most.
  * - A reset in the middle of a call leaves a mixture of old and new words: build again from a pair table, and send the
  *   messages again.
- * - Time grows with rides x rides x (operators + rides) for build and message, with operators + rides for a query, with
- *   operators x rides + steps x (operators + rides) for a peel.
+ * - Time grows with rides x rides x (operators + rides) for build and message, for a message list as for one message and
+ *   with messages x pairs, with operators + rides for a query, with operators x rides + steps x (operators + rides) for a
+ *   peel.
  */
 #ifndef BOARD_H
 #define BOARD_H
