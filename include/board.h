@@ -40,9 +40,9 @@
  * - No writable data; of the program it needs memcpy, memmove and memset at most.
  * - A reset in the middle of a call leaves a mixture of old and new words: build again from a pair table, and send the
  *   messages again.
- * - Time grows with rides x rides x (operators + rides) for build and message, for a message list as for one message and
- *   with messages x pairs, with operators + rides for a query, with operators x rides + steps x (operators + rides) for a
- *   peel.
+ * - Time grows with rides x rides x (operators + rides) for build and message, for a message list as for one message
+ *   and with messages x pairs, with operators + rides for a query, with operators x rides + steps x (operators + rides)
+ *   for a peel.
  */
 #ifndef BOARD_H
 #define BOARD_H
