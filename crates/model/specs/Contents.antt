@@ -15,6 +15,7 @@ use Rattle.model.specs.Layout.{Operators, Rides, Stamps, Index, Parts, B
 pub data Slot : Type 0 where
   Pair : ℕ → ℕ → Slot
 
+-- both are the same slot
 abbrev pub same-slot : Slot → Slot → Bool
 same-slot (Pair u v) (Pair a d) = eqb u a && eqb v d
 
