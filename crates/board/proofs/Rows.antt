@@ -17,7 +17,7 @@ use Rattle.messages.proofs.Delivered.Laws as D′
 use Rattle.model.proofs.Head as T
 use Rattle.model.proofs.Head.Laws as T′
 use Rattle.model.proofs.Message as N
-use Rattle.messages.specs.Deliver.{with-pairs}
+use Rattle.entries.specs.Enter.{with-pairs}
 
 -- THE SLICES: their element types, in the order of the parameters. How many there are is written in no proof.
 abbrev pub Rs : List RattleType

@@ -13,9 +13,9 @@ use Rattle.model.specs.Refusal.{list-refusal}
 use Rattle.model.specs.Message.{ListOutcome, board-messages}
 use Rattle.model.proofs.Refusal.{list-none}
 use Rattle.model.proofs.Taken.{list-taken, list-refused}
-use Rattle.messages.specs.Once.{turned, turns, turns-of}
-use Rattle.messages.specs.declared.Turns.{Turns}
-use Rattle.messages.proofs.List.{filled-once, turned-keeps}
+use Rattle.lists.specs.Once.{turned, turns, turns-of}
+use Rattle.lists.specs.declared.Turns.{Turns}
+use Rattle.lists.proofs.List.{filled-once, turned-keeps}
 
 -- what lies past a list's end
 abbrev pub nil : Message

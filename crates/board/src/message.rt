@@ -2,7 +2,7 @@
 ghost use mathlib.Core.Path.{_≡_};
 ghost use Rattle.model.specs.Layout.{lent};
 ghost use Rattle.model.specs.Message.{board-message, board-messages};
-ghost use Rattle.board.specs.Outcome.{answered, listed-out};
+ghost use Rattle.model.specs.Outcome.{answered, listed-out};
 use model::Answer;
 use model::Head;
 use model::Message;
@@ -47,7 +47,7 @@ pub extern "C" fn board_messages(
         (now (messages .entry)) (now (answers .entry))
         ⌝ }
 {
-    let t = messages::list_turns(
+    let t = lists::list_turns(
         *head,
         messages.len(),
         operators,
@@ -60,7 +60,7 @@ pub extern "C" fn board_messages(
     while i < t.turns {
         let message = messages[i];
         let turns = t.turns;
-        head.pairs = messages::turn(
+        head.pairs = lists::turn(
             *head,
             message,
             i,

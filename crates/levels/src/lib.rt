@@ -6,9 +6,9 @@ ghost use Rattle.model.specs.Graph.{row as levels-row, index-of};
 ghost use Rattle.model.specs.Layout.{over, graph, index-places, differing};
 ghost use Rattle.pairs.specs.Accepted.{AcceptedPairs};
 ghost use Rattle.tables.specs.Table.{ZeroTables, table-graph};
-ghost use Rattle.row.specs.Row.{Tabulated};
+ghost use Rattle.degrees.specs.Everybody.{Tabulated};
+use degrees::Degrees;
 use model::Head;
-use row::Degrees;
 
 // The higher of two degrees.
 fn higher(a: u8, b: u8) -> u8
@@ -134,7 +134,7 @@ fn fill_over(
     let n = head.operators as usize;
     let m = head.rides as usize;
     let w = n + m;
-    let degrees = row::tabulate(head, operators, rides, by_operator, by_ride);
+    let degrees = degrees::tabulate(head, operators, rides, by_operator, by_ride);
     let high = largest_of(degrees, n);
     fill_rows(
         by_operator,

@@ -1,4 +1,1 @@
-pub mod Entering
 pub mod Taking
-pub mod Once
-pub mod List

@@ -4,11 +4,8 @@ use Prim.Native.Nat.{ℕ}
 use Rattle.model.specs.declared.Head.{Head}
 use Rattle.model.specs.Layout.{lent}
 use Rattle.model.specs.Message.{MessageOutcome}
+use Rattle.entries.specs.Enter.{with-pairs}
 use Rattle.messages.specs.declared.Delivered.{Delivered}
-
--- the head with this number of pairs
-abbrev pub with-pairs : Head → ℕ → Head
-with-pairs h pairs = record { operators = h .operators; rides = h .rides; pairs = pairs }
 
 -- the answer, and the lent parts at exit
 abbrev pub outcome-of : Head → Delivered → List ℕ → List ℕ → List ℕ → List ℕ → MessageOutcome

@@ -1,3 +1,1 @@
-pub mod Enter
 pub mod Deliver
-pub mod Once

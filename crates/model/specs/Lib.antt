@@ -7,3 +7,4 @@ pub mod Calls
 pub mod Message
 pub mod Demand
 pub mod Samples
+pub mod Outcome

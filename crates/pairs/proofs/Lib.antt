@@ -1,4 +1,2 @@
 pub mod Order
-pub mod Words
 pub mod Place
-pub mod After

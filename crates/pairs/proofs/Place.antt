@@ -18,7 +18,7 @@ use Rattle.model.specs.Contents.{pair-numbers}
 use Rattle.model.proofs.Count.{test-ext, and-left, and-right, and-both, count-le, count-less}
 use Rattle.model.proofs.Pairs.{Pairs, pair-stands, listed-place, place-listed, table-pairs, pairs-count, length-passing, cleared-number}
 use Rattle.pairs.specs.Accepted.{AcceptedPairs}
-use Rattle.pairs.specs.Change.{FirstPlace}
+use Rattle.pairs.specs.Place.{FirstPlace}
 
 -- the number of the pair at place i
 abbrev pub number : ℕ → List ℕ → List ℕ → ℕ → ℕ

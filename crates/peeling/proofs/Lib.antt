@@ -1,4 +1,2 @@
-pub mod Rows
 pub mod Steps
 pub mod Run
-pub mod Limits

@@ -1,17 +1,14 @@
--- Laws of a run of steps: what was taken and what is left make up the peel, from the marks that came in. Assumes nothing.
-use mathlib.Core.Path.{_≡_, sym, ap, ap₂, _∙_}
-use mathlib.Core.List.{List, _++_}
+-- Laws of a run of steps: what was taken and what is left make up the peel. Assumes nothing.
+use mathlib.Core.Path.{_≡_, sym, ap, _∙_}
 use Prim.Native.Nat.{ℕ, suc, _+_, _-_, _≤_, _<_}
 use native.Mathlib.Omega.{arith}
 use lib.Dec.{T}
-use lib.ListN.{length, take, drop, replicate}
-use Rattle.model.specs.declared.Peeled.{Peeled}
-use Rattle.model.specs.Count.{bit, lowest}
+use lib.ListN.{length}
+use Rattle.model.specs.Count.{lowest}
 use Rattle.model.specs.Graph.{Graph, nodes, short, settled, removals, peel}
-use Rattle.model.specs.Calls.{peeled}
-use Rattle.model.proofs.Peel.{peel-spent, peel-settled, peel-step, steps-past, settled-past, peel-past}
+use Rattle.model.proofs.Peel.{peel-spent, peel-settled, peel-step}
 use Rattle.peeling.specs.declared.State.{State}
-use Rattle.peeling.specs.Steps.{StateOf, Started, first-marks, Stepped, Ran, Gives}
+use Rattle.peeling.specs.Steps.{StateOf, Stepped, Ran}
 
 module _ (g : Graph) (limit : ℕ → ℕ) (allowed : ℕ) (s₀ : State) where
   -- on the way from s₀: the peel from s₀ is the steps taken and the peel from s, with the steps that are left
@@ -61,27 +58,3 @@ module _ (g : Graph) (limit : ℕ → ℕ) (allowed : ℕ) (s₀ : State) where
         marks = sym (w .marks ∙ ap (λ (k : ℕ). peel g limit k (s .marks)) e ∙ p .1);
         state = w .state;
       }
-
--- ---- the whole peel, from marks that came in
-
-module _ (g : Graph) (limit : ℕ → ℕ) (allowed : ℕ) (came : List ℕ) (room : nodes g ≤ length came) (s₀ s : State) (start : Started g came s₀) (run : Ran g limit allowed s₀ s) where
-  abbrev behind : List ℕ
-  behind = drop (nodes g) (replicate 260 0)
-
-  last-marks : s .marks ≡ peel g limit allowed (first-marks (nodes g) came)
-  last-marks = run .marks ∙ ap (peel g limit allowed) (start .marks)
-
-  pub peel-gives : (word : ℕ) (left : List ℕ) → word ≡ bit (settled g limit (s .marks)) → left ≡ take (nodes g) (s .marks) ++ drop (nodes g) came → Gives (peeled g limit allowed came) (record { code = 0; settled = word; steps = s .steps }) left
-  unfolding peeled
-  peel-gives word left e l =
-      record {
-        answer = ap₂ outcome
-            (e ∙ ap (λ m. bit (settled g limit m)) last-marks ∙ ap bit (settled-past g limit allowed came behind room))
-            (run .steps ∙ ap (λ m. length (removals g limit allowed m)) (start .marks) ∙ steps-past g limit allowed came behind room);
-        marks = l ∙
-            ap (λ m. take (nodes g) m ++ drop (nodes g) came) last-marks ∙
-            peel-past g limit allowed came behind room;
-      }
-    where
-      outcome : ℕ → ℕ → Peeled
-      outcome word steps = record { code = 0; settled = word; steps = steps }

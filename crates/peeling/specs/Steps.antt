@@ -1,33 +1,17 @@
--- Inner contracts: what a state of a peel is, and what its step, a run of steps and the whole peel leave.
+-- Inner contracts: what a state of a peel is, and what its step and a run of steps leave.
 use mathlib.Core.Path.{_≡_}
-use mathlib.Core.Bool.{_&&_}
 use mathlib.Core.List.{List, _++_}
 use Prim.Native.Nat.{ℕ, _+_, _-_, _≤_, _<_}
 use lib.ListN.{length, getD, set, take, drop, replicate}
 use Rattle.peeling.specs.declared.State.{State}
-use Rattle.model.specs.declared.Peeled.{Peeled}
-use Rattle.model.specs.Count.{count}
-use Rattle.model.specs.Graph.{Graph, nodes, degree, marked, removals, peel}
-use Rattle.model.specs.Calls.{PeelOutcome}
-use Rattle.tables.specs.Table.{Tables}
-
--- what a peel of g starts from: its sizes and tables, and marks for all its nodes, each 0 or 1
-pub record Ready (g : Graph) (n m : ℕ) (rows columns marks : List ℕ) : Type 0 where
-  pub operators : n ≡ g .operators
-  pub rides : m ≡ g .rides
-  pub tables : Tables g rows columns
-  pub room : nodes g ≤ length marks
-  pub in-use : (x : ℕ) → x < nodes g → getD marks x 0 ≤ 1
-
--- the remaining degrees of all operators and rides: those inside the marks
-abbrev pub Degrees : Graph → List ℕ → List ℕ → Type 0
-Degrees g marks degrees = (x : ℕ) → x < nodes g → getD degrees x 0 ≡ degree g (marked marks) x
+use Rattle.model.specs.Graph.{Graph, nodes, removals, peel}
+use Rattle.degrees.specs.Degrees.{MarkedDegrees}
 
 -- a state of a peel of g: its sizes, and the remaining degrees that travel with the marks
 pub record StateOf (g : Graph) (s : State) : Type 0 where
   pub operators : s .operators ≡ g .operators
   pub rides : s .rides ≡ g .rides
-  pub degrees : Degrees g (s .marks) (s .degrees)
+  pub degrees : MarkedDegrees g (s .marks) (s .degrees)
 
 -- the marks of a first state: those of k nodes, and zeros up to the state's end
 abbrev pub first-marks : ℕ → List ℕ → List ℕ
@@ -38,17 +22,6 @@ pub record Started (g : Graph) (came : List ℕ) (r : State) : Type 0 where
   pub steps : r .steps ≡ 0
   pub marks : r .marks ≡ first-marks (nodes g) came
   pub state : StateOf g r
-
--- a row beside as many marks, at most 200, all of them 0 or 1
-pub record Beside (row marks : List ℕ) : Type 0 where
-  pub size : length row ≡ length marks
-  pub most : length row ≤ 200
-  pub row-bit : (i : ℕ) → i < length row → getD row i 0 ≤ 1
-  pub mark-bit : (i : ℕ) → i < length row → getD marks i 0 ≤ 1
-
--- how many of the first k places hold a 1 in both lists
-abbrev pub common-ones : ℕ → List ℕ → List ℕ → ℕ
-common-ones k a b = count k (λ i. marked a i && marked b i)
 
 -- the mark of x can be cleared in s, and a row subtracted from the degrees that start at from
 pub record Clears (s : State) (x from : ℕ) (row : List ℕ) : Type 0 where
@@ -78,8 +51,3 @@ pub record Ran (g : Graph) (limit : ℕ → ℕ) (allowed : ℕ) (s r : State) :
   pub steps : r .steps ≡ length (removals g limit allowed (s .marks))
   pub marks : r .marks ≡ peel g limit allowed (s .marks)
   pub state : StateOf g r
-
--- the answer and the marks at exit are those of the outcome
-pub record Gives (o : PeelOutcome) (r : Peeled) (left : List ℕ) : Type 0 where
-  pub answer : r ≡ o .answer
-  pub marks : left ≡ o .marks

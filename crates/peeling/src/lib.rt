@@ -1,20 +1,16 @@
-// The peel: its state travels by value, and each step hands on the next one. A step costs one row of a table and one pass over the nodes.
-// The tables of clearances are lent as rows, by operator in rows of 60 rides, and as columns, by ride in rows of 200 operators.
+// The state of a peel travels by value, and each step hands on the next one. A step costs one row of a table and one pass over the nodes.
 ghost use mathlib.Core.Path.{_≡_};
 ghost use mathlib.Core.Bool.{_&&_};
-ghost use mathlib.Core.List.{_++_};
 ghost use Prim.Native.Nat.{_+_, _≤_, _<_};
 ghost use lib.Dec.{T, ltb, eqb};
-ghost use lib.ListN.{length, take, drop};
+ghost use lib.ListN.{length};
 ghost use Rattle.model.specs.Count.{bit, lowest};
-ghost use Rattle.model.specs.Graph.{Graph, nodes, degree, marked, short, settled};
-ghost use Rattle.model.specs.Calls.{peeled};
-ghost use Rattle.model.specs.Layout.{mark-places};
+ghost use Rattle.model.specs.Graph.{Graph, nodes, marked, short, settled};
 ghost use Rattle.limits.specs.Limits.{limit-of};
 ghost use Rattle.tables.specs.Table.{Tables};
-ghost use Rattle.peeling.specs.Steps.{Ready, Degrees, StateOf, Started, Beside, common-ones, Clears, Cleared, Stepped, Ran, Gives};
+ghost use Rattle.degrees.specs.Degrees.{Ready};
+ghost use Rattle.peeling.specs.Steps.{StateOf, Started, Clears, Cleared, Stepped, Ran};
 use model::Head;
-use model::Peeled;
 use tables::subtract;
 
 // The state of a peel: the remaining degree of every node, marked or not (operators first, then rides), the marks, the sizes, and the steps taken.
@@ -26,84 +22,6 @@ pub struct State {
     pub steps: u16,
 }
 
-// How many places have a 1 in the row and in the marks.
-fn common(row: &[u8], marks: &[u16]) -> u8
-    requires { ⌜ Beside (now row) (now marks) ⌝ }
-    ensures { λ r. ⌜ r ≡ common-ones (length (now (row .entry))) (now (row .entry)) (now (marks .entry)) ⌝ }
-{
-    let n = row.len();
-    let mut sum: u8 = 0;
-    let mut i = 0;
-    while i < n {
-        sum += row[i] * (marks[i] as u8);
-        i += 1;
-    }
-    sum
-}
-
-// The degree of node x inside the marks.
-fn degree_of(
-    operators: usize,
-    rides: usize,
-    rows: &[u8],
-    columns: &[u8],
-    marks: &[u16],
-    x: usize,
-) -> u8
-    requires { ⌜ ((g : Graph) × Ready g operators rides (now rows) (now columns) (now marks)) ⌝ }
-    requires { ⌜ x < operators + rides ⌝ }
-    ensures { λ r. ⌜
-        ((g : Graph) → Ready g operators rides (now (rows .entry)) (now (columns .entry)) (now (marks .entry)) →
-        r ≡ degree g (marked (now (marks .entry))) x)
-        ⌝ }
-{
-    if x < operators {
-        let from = x * 60;
-        return common(
-            &rows[from..from + rides],
-            &marks[operators..operators + rides],
-        );
-    }
-    let from = (x - operators) * 200;
-    common(&columns[from..from + operators], &marks[0..operators])
-}
-
-// Fills in the degrees of all nodes inside the marks.
-fn fill_degrees(
-    operators: usize,
-    rides: usize,
-    rows: &[u8],
-    columns: &[u8],
-    marks: &[u16],
-    degrees: &mut [u8],
-)
-    requires { ⌜ ((g : Graph) × Ready g operators rides (now rows) (now columns) (now marks)) ⌝ }
-    requires { ⌜ operators + rides ≤ length (now degrees) ⌝ }
-    ensures { λ _. ⌜
-        ((g : Graph) → Ready g operators rides (now (rows .entry)) (now (columns .entry)) (now (marks .entry)) →
-        Degrees g (now (marks .entry)) (now (degrees .exit)))
-        ⌝ }
-{
-    let nodes = operators + rides;
-    let mut x = 0;
-    while x < nodes {
-        degrees[x] = degree_of(operators, rides, rows, columns, marks, x);
-        x += 1;
-    }
-}
-
-// Copies the first n marks.
-fn copy_marks(from: &[u16], to: &mut [u16], n: usize)
-    requires { ⌜ (n ≤ length (now from)) × (n ≤ length (now to)) ⌝ }
-    ensures { λ _. ⌜ now (to .exit) ≡ take n (now (from .entry)) ++ drop n (now (to .entry)) ⌝ }
-{
-    let mut i = 0;
-    while i < n {
-        to[i] = from[i];
-        i += 1;
-    }
-}
-
 // Whether a node with this mark and this degree falls short of the limit.
 fn falls_short(mark: u16, degree: u8, limit: u16) -> bool
     ensures { λ r. ⌜ r ≡ (eqb mark 1 && ltb degree limit) ⌝ }
@@ -113,7 +31,7 @@ fn falls_short(mark: u16, degree: u8, limit: u16) -> bool
 
 impl State {
     // The first state, from marks that came in.
-    fn start(head: Head, rows: &[u8], columns: &[u8], marks: &[u16]) -> State
+    pub fn start(head: Head, rows: &[u8], columns: &[u8], marks: &[u16]) -> State
         requires { ⌜ ((g : Graph) × Ready g (head .operators) (head .rides) (now rows) (now columns) (now marks)) ⌝ }
         ensures { λ r. ⌜
             ((g : Graph) →
@@ -124,9 +42,9 @@ impl State {
         let operators = head.operators as usize;
         let rides = head.rides as usize;
         let mut kept = [0u16; 260];
-        copy_marks(marks, &mut kept, operators + rides);
+        words::copy(marks, &mut kept, operators + rides);
         let mut degrees = [0u8; 260];
-        fill_degrees(operators, rides, rows, columns, &kept, &mut degrees);
+        degrees::fill(operators, rides, rows, columns, &kept, &mut degrees);
         State {
             degrees: degrees,
             marks: kept,
@@ -211,7 +129,7 @@ impl State {
     }
 
     // Settled (1) where nobody falls short, else unsettled (0).
-    fn settled(self, limits: &[u16]) -> u16
+    pub fn settled(self, limits: &[u16]) -> u16
         requires { ⌜ (self .operators + self .rides ≤ 260) × (self .operators + self .rides ≤ length (now limits)) ⌝ }
         ensures { λ r. ⌜
             ((g : Graph) → StateOf g self → r ≡ bit (settled g (limit-of (now (limits .entry))) (self .marks)))
@@ -224,34 +142,5 @@ impl State {
         } else {
             1
         }
-    }
-}
-
-// Peel: clears marks, each time the lowest operator that falls short of its limit, else the lowest ride, in at most the allowed steps.
-pub fn peel(
-    head: Head,
-    rows: &[u8],
-    columns: &[u8],
-    limits: &[u16],
-    marks: &mut [u16],
-    allowed: u16,
-) -> Peeled
-    requires { ⌜ ((g : Graph) × Ready g (head .operators) (head .rides) (now rows) (now columns) (now marks)) ⌝ }
-    requires { ⌜ mark-places head ≤ length (now limits) ⌝ }
-    ensures { λ r. ⌜
-        ((g : Graph) →
-        Ready g (head .operators) (head .rides) (now (rows .entry)) (now (columns .entry)) (now (marks .entry)) →
-        Gives (peeled g (limit-of (now (limits .entry))) allowed (now (marks .entry))) r (now (marks .exit)))
-        ⌝ }
-{
-    let operators = head.operators as usize;
-    let rides = head.rides as usize;
-    let last = State::start(head, rows, columns, marks).run(rows, columns, limits, allowed);
-    let left = last.marks;
-    copy_marks(&left, marks, operators + rides);
-    Peeled {
-        code: 0,
-        settled: last.settled(limits),
-        steps: last.steps,
     }
 }

@@ -163,7 +163,15 @@ fn list(
     answers: &mut [u16],
 ) -> u16 {
     let count = frames::word(frame, 4) as usize;
-    let code = refusals::list_number(head(frame), count, operators, rides, stamps, index, answers);
+    let code = message_refusals::list_number(
+        head(frame),
+        count,
+        operators,
+        rides,
+        stamps,
+        index,
+        answers,
+    );
     frames::print(code);
     deliver_all(
         frame,

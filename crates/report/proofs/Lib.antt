@@ -1,6 +1,4 @@
-pub mod Decimal
 pub mod Enough
 pub mod Sample
 pub mod Sizes
 pub mod Report
-pub mod Write

@@ -7,47 +7,21 @@ use native.Mathlib.Nat.{zero-add}
 use native.Mathlib.Omega.{arith}
 use lib.Dec.{leb, leb→le, le→leb}
 use lib.ListN.{length, getD}
-use lib.Seq.{ext-getD}
+use lib.Seq.{ext-getD, length-sets}
 use Rattle.model.specs.declared.Head.{Head}
 use Rattle.model.specs.Count.{count, values}
 use Rattle.model.specs.Graph.{Graph, nodes, everybody, marked, cover, level, row}
-use Rattle.model.specs.Layout.{graph}
+use Rattle.model.specs.Layout.{over, graph}
 use Rattle.model.specs.Refusal.{refused-5, refused-11, first-number}
 use Rattle.model.proofs.Count.{test-ext, count-ext, length-values, getD-values}
 use Rattle.model.proofs.Cover.{degree-operator-le}
 use Rattle.model.proofs.Level.{level-largest, level-in, level-laws}
-use Rattle.report.specs.Text.{bytes, refusal-line, first-line, member-line, member-lines, report-text}
-use Rattle.report.specs.Program.{cover-lines}
-use Rattle.report.specs.Write.{level-at, member-at, table-text}
-
-module _ (name : List ℕ) (p q : ℕ → Bool) (f g : ℕ → ℕ) where
-  pub member-lines-ext : (k : ℕ) → ((i : ℕ) → i < k → p i ≡ q i) → ((i : ℕ) → i < k → f i ≡ g i) → member-lines name p f k ≡ member-lines name q g k
-  unfolding member-lines
-  member-lines-ext zero h l = refl
-  member-lines-ext (suc k) h l =
-      ap₂ _++_
-      (member-lines-ext k (λ i b. h i (omega arith)) (λ i b. l i (omega arith)))
-      (ap₂ (λ (b : Bool) (z : ℕ). member-line name b k z) (h k (omega arith)) (l k (omega arith)))
-
-module _ (α β n m : ℕ) (p q : ℕ → Bool) (f g : ℕ → ℕ) where
-  pub report-ext : ((x : ℕ) → x < n + m → p x ≡ q x) → ((x : ℕ) → x < n + m → f x ≡ g x) → report-text α β n m p f ≡ report-text α β n m q g
-  unfolding report-text
-  report-ext h l =
-      ap₂ _++_
-      (ap₂ _++_
-      (ap₂ (first-line α β) (count-ext p q n (λ u b. h u (omega arith))) (count-ext (λ v. p (n + v)) (λ v. q (n + v)) m (λ v b. h (n + v) (omega arith))))
-      (member-lines-ext (bytes "operator ") p q f g n (λ u b. h u (omega arith)) (λ u b. l u (omega arith))))
-      (member-lines-ext (bytes "ride ") (λ v. p (n + v)) (λ v. q (n + v)) (λ v. f (n + v)) (λ v. g (n + v)) m (λ v b. h (n + v) (omega arith)) (λ v b. l (n + v) (omega arith)))
-
--- the text from a row of levels: the parts that are written one after the other
-pub row-text :
-    (α β n m : ℕ) (levels : List ℕ) →
-    first-line α β (count n (member-at β levels 0)) (count m (member-at β levels n)) ++
-    member-lines (bytes "operator ") (member-at β levels 0) (level-at levels 0) n ++
-    member-lines (bytes "ride ") (member-at β levels n) (level-at levels n) m ≡
-    report-text α β n m (member-at β levels 0) (level-at levels 0)
-unfolding report-text
-row-text α β n m levels = simp zero-add
+use Rattle.text.specs.Text.{refusal-line, report-text}
+use Rattle.text.specs.Write.{Wrote, level-at, member-at}
+use Rattle.text.proofs.Write.{sets-over}
+use Rattle.text.proofs.Lines.{report-ext}
+use Rattle.report.specs.Program.{cover-lines, cover-text, Reported}
+use Rattle.report.specs.Sizes.{table-text}
 
 -- ---- the text from row α of a pair table
 
@@ -94,3 +68,13 @@ module _ (h : Head) (operators rides : List ℕ) (α β : ℕ) where
   pub table-cover : refused-5 h operators rides ≡ false → refused-11 α β ≡ false → cover-lines h operators rides α β ≡ table-text h operators rides α β
   unfolding first-number
   table-cover e f = rw (e, f, first-number)
+
+-- ---- the whole output
+
+pub reported : {old new text : List ℕ} {r : ℕ} (input : List ℕ) → 5490 ≤ length old → text ≡ cover-text input → Wrote old 0 text 5490 new r → Reported input old new r
+reported {old} {new} {text} {r} input h e w =
+    record {
+      size = w .stops ∙ zero-add (length text) ∙ ap length e;
+      text = w .bytes ∙ sets-over old text (omega (arith, w .stops, w .short)) ∙ ap (λ (x : List ℕ). over x old) e;
+      fits = omega (arith, w .short, ap length (w .bytes), length-sets old 0 text);
+    }

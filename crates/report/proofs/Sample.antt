@@ -4,7 +4,7 @@ use Rattle.model.specs.Count
 use Rattle.model.specs.Graph
 use Rattle.model.specs.Layout
 use Rattle.model.specs.Refusal
-use Rattle.report.specs.Text
+use Rattle.text.specs.Text
 use Rattle.report.specs.Program
 use Rattle.report.specs.Program.{cover-text}
 use Rattle.report.specs.Sample.{sample-input, sample-output}

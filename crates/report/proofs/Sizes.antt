@@ -12,9 +12,9 @@ use Rattle.model.specs.declared.Head.{Head}
 use Rattle.model.specs.Refusal.{first-number}
 use Rattle.model.proofs.Count.{test-false}
 use Rattle.model.proofs.Chain.{first-none, enough}
-use Rattle.report.specs.Text.{refusal-line}
+use Rattle.text.specs.Text.{refusal-line}
 use Rattle.report.specs.Program.{head, size-cases, cover-refusal, cover-text}
-use Rattle.report.specs.Write.{Sizes, input-text}
+use Rattle.report.specs.Sizes.{Sizes, input-text}
 
 -- ---- the first number of a list of checks
 

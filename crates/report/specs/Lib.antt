@@ -1,4 +1,3 @@
-pub mod Text
-pub mod Write
 pub mod Program
 pub mod Sample
+pub mod Sizes

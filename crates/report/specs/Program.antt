@@ -10,7 +10,7 @@ use Rattle.model.specs.Count.{values}
 use Rattle.model.specs.Graph.{marked, cover, level}
 use Rattle.model.specs.Layout.{over, graph}
 use Rattle.model.specs.Refusal.{refused-1, refused-2, refused-4, refused-5, refused-11, first-number}
-use Rattle.report.specs.Text.{refusal-line, report-text}
+use Rattle.text.specs.Text.{refusal-line, report-text}
 
 -- the 16-bit little-endian word at place i of the input
 abbrev pub word : List ℕ → ℕ → ℕ

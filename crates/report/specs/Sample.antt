@@ -1,7 +1,7 @@
 -- Document 01, The program `cover`: its sample input and output.
 use mathlib.Core.List.{List, [], _∷_}
 use Prim.Native.Nat.{ℕ, _/_, _%_}
-use Rattle.report.specs.Text.{bytes}
+use Rattle.text.specs.Text.{bytes}
 
 -- the bytes of 16-bit little-endian words
 abbrev pub little-endian : List ℕ → List ℕ

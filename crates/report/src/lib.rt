@@ -1,6 +1,5 @@
 // The program `cover` as a function from the bytes of its input to the bytes of its output.
 mod input;
-mod text;
 
 ghost use mathlib.Core.Path.{_≡_};
 ghost use Prim.Native.Nat.{ℕ, _+_, _*_, _≤_};
@@ -9,7 +8,8 @@ ghost use Rattle.model.specs.Graph.{row as levels-row};
 ghost use Rattle.model.specs.Layout.{mark-places, graph};
 ghost use Rattle.pairs.specs.Accepted.{AcceptedPairs};
 ghost use Rattle.report.specs.Program.{cover-lines, Reported};
-ghost use Rattle.report.specs.Write.{Wrote, Sizes, table-text, input-text};
+ghost use Rattle.text.specs.Write.{Wrote};
+ghost use Rattle.report.specs.Sizes.{Sizes, table-text, input-text};
 use model::Head;
 
 // The levels in row α, over a row of zeros. For α above rides they are 0.

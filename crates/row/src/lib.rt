@@ -1,13 +1,14 @@
 // One row of the index, from the dense tables of clearances.
 ghost use mathlib.Core.Path.{_≡_};
-ghost use Prim.Native.Nat.{ℕ, _+_, _<_, _≤_};
-ghost use lib.ListN.{length, getD};
-ghost use Rattle.model.specs.Count.{count};
+ghost use Prim.Native.Nat.{_+_, _≤_};
+ghost use lib.ListN.{length};
 ghost use Rattle.model.specs.Graph.{row as levels-row};
 ghost use Rattle.model.specs.Layout.{graph, mark-places};
 ghost use Rattle.pairs.specs.Accepted.{AcceptedPairs};
-ghost use Rattle.tables.specs.Table.{Table, Tables, ZeroTables, joined, table-graph};
-ghost use Rattle.row.specs.Row.{work, Fits, Raising, Settled, Rounded, Lower, Least, Start, Everybody, Tabulated};
+ghost use Rattle.tables.specs.Table.{ZeroTables, table-graph};
+ghost use Rattle.degrees.specs.Everybody.{Tabulated};
+ghost use Rattle.row.specs.Row.{work, Fits, Raising, Settled, Rounded, Lower, Least, Start};
+use degrees::Degrees;
 use model::Head;
 
 // Sweeps the rides and then the operators once.
@@ -182,63 +183,6 @@ fn raise(
     }
 }
 
-// The degrees of the columns of a table: how many of its rows each is joined with.
-fn add_rows(degrees: &mut [u8], table: &[u8], width: usize, height: usize)
-    requires { ⌜ Table (joined (now table) width) height (length (now degrees)) width (now table) × (height ≤ 255) ⌝ }
-    requires { ⌜ ((j : ℕ) → j < length (now degrees) → getD (now degrees) j 0 ≡ 0) ⌝ }
-    ensures { λ _. ⌜
-        ((j : ℕ) → j < length (now (degrees .entry)) → getD (now (degrees .exit)) j 0 ≡ count height (λ i. joined (now (table .entry)) width i j))
-        ⌝ }
-{
-    let n = degrees.len();
-    let mut i = 0;
-    while i < height {
-        let at = i * width;
-        let end = at + n;
-        tables::add(degrees, &table[at..end]);
-        i += 1;
-    }
-}
-
-// The degrees inside everybody.
-pub struct Degrees {
-    pub operators: [u8; 200],
-    pub rides: [u8; 60],
-}
-
-// The degrees of n operators and m rides inside everybody.
-fn everybody(by_operator: &[u8], by_ride: &[u8], n: usize, m: usize) -> Degrees
-    requires { ⌜ Tables (table-graph n m (now «by_operator»)) (now «by_operator») (now «by_ride») ⌝ }
-    ensures { λ r. ⌜ Everybody (table-graph n m (now («by_operator» .entry))) (r .operators) (r .rides) ⌝ }
-{
-    let mut operators = [0u8; 200];
-    let mut rides = [0u8; 60];
-    add_rows(&mut operators[0..n], by_ride, 200, m);
-    add_rows(&mut rides[0..m], by_operator, 60, n);
-    Degrees { operators, rides }
-}
-
-// Fills tables of zeros with the clearances of a pair table; the degrees inside everybody.
-pub fn tabulate(
-    head: Head,
-    operators: &[u16],
-    rides: &[u16],
-    by_operator: &mut [u8],
-    by_ride: &mut [u8],
-) -> Degrees
-    requires { ⌜ AcceptedPairs head (now operators) (now rides) × ZeroTables (now «by_operator») (now «by_ride») ⌝ }
-    ensures { λ r. ⌜
-        Tables (graph head (now (operators .entry)) (now (rides .entry)))
-        (now («by_operator» .exit)) (now («by_ride» .exit)) ×
-        Tabulated (head .operators) (head .rides) (now («by_operator» .exit)) (now («by_ride» .exit)) (r .operators) (r .rides)
-        ⌝ }
-{
-    let n = head.operators as usize;
-    let m = head.rides as usize;
-    tables::fill(head, operators, rides, by_operator, by_ride);
-    everybody(by_operator, by_ride, n, m)
-}
-
 // The row of alpha.
 pub fn fill_row(
     by_operator: &[u8],
@@ -292,7 +236,7 @@ fn row_over(
 {
     let n = head.operators as usize;
     let m = head.rides as usize;
-    let degrees = tabulate(head, operators, rides, by_operator, by_ride);
+    let degrees = degrees::tabulate(head, operators, rides, by_operator, by_ride);
     fill_row(by_operator, by_ride, degrees, n, m, alpha, row);
 }
 

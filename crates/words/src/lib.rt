@@ -1,9 +1,10 @@
-// Arrays of 16-bit words and of 32-bit stamps: one value stored from one place up to another; words stored and compared with the old ones.
+// Arrays of 16-bit words and of 32-bit stamps: one value stored from one place up to another; words copied, and words stored and compared with the old ones.
 ghost use mathlib.Core.Path.{_≡_};
 ghost use mathlib.Core.Bool.{not};
+ghost use mathlib.Core.List.{_++_};
 ghost use Prim.Native.Nat.{_≤_};
 ghost use lib.Dec.{eqb};
-ghost use lib.ListN.{length};
+ghost use lib.ListN.{length, take, drop};
 ghost use Rattle.model.specs.Count.{bit};
 ghost use Rattle.model.specs.Layout.{differing};
 ghost use Rattle.words.specs.Filled.{filled};
@@ -28,6 +29,18 @@ pub fn fill_stamps(stamps: &mut [u32], from: usize, to: usize, stamp: u32)
     let mut i = from;
     while i < to {
         stamps[i] = stamp;
+        i += 1;
+    }
+}
+
+// Copies the first n words.
+pub fn copy(from: &[u16], to: &mut [u16], n: usize)
+    requires { ⌜ (n ≤ length (now from)) × (n ≤ length (now to)) ⌝ }
+    ensures { λ _. ⌜ now (to .exit) ≡ take n (now (from .entry)) ++ drop n (now (to .entry)) ⌝ }
+{
+    let mut i = 0;
+    while i < n {
+        to[i] = from[i];
         i += 1;
     }
 }

@@ -5,7 +5,7 @@ use mathlib.Core.Path.{ap, _∙_}
 use Prim.Native.Nat.{ℕ, _+_}
 use native.Mathlib.Omega.{arith}
 use Rattle.model.specs.Layout.{over, index-places, differing}
-use Rattle.row.proofs.Rows.{first-length}
+use Rattle.degrees.proofs.Added.{first-length}
 use Rattle.levels.proofs.Index.{held-index}
 use Rattle.levels.proofs.fill_over.Statement.{statement}
 use Rattle.levels.proofs.fill_over.Tie as tie

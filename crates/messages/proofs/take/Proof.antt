@@ -1,5 +1,6 @@
 -- `messages::take` meets its contract: the message is entered, and the index is that of the new pairs. Assumes nothing.
-use Rattle.messages.proofs.Taking.{take-ready, index-long, next-pairs, take-done}
+use Rattle.entries.proofs.Next.{next-pairs}
+use Rattle.messages.proofs.Taking.{take-ready, index-long, take-done}
 use Rattle.messages.proofs.take.Statement.{statement}
 use Rattle.messages.proofs.take.Tie as tie
 
@@ -10,7 +11,7 @@ fill-index-requires : tie.Need-fill-index-requires
 fill-index-requires c κs = let s = c .before .before .before .before .before .before .before .before .before .before .before .before .before .before .before .before .before in
     let a = s .args in
     let ready = take-ready (a .head) (a .message) (a .operators .now) (a .rides .now) (a .stamps .now) (a .index .now) (s .pre) in (
-      next-pairs (a .head) (a .message) (a .operators .now) (a .rides .now) (a .stamps .now) (a .index .now) _ _ _ _ (ready .room .pairs .few-operators) (ready .room .pairs .few-rides) (c .before .before .before .before .before .before .before .before .before .enter .ensures),
+      next-pairs (a .head) (a .message) (a .operators .now) (a .rides .now) (a .stamps .now) (a .index .now) _ _ _ _ (c .before .before .before .before .before .before .before .before .before .enter .ensures) (ready .room .pairs .few-operators) (ready .room .pairs .few-rides),
       index-long (a .head) (a .message) (a .operators .now) (a .rides .now) (a .stamps .now) (a .index .now) (s .pre),
     )
 
@@ -29,9 +30,8 @@ same-length-4 c = c .before .index .given
 returns : tie.Need-returns
 returns c = let s = c .before .before .before .before .before .before .before .before .before .before .before .before .before .before .before .before .before .before .before .before in
     let a = s .args in
-    let ready = take-ready (a .head) (a .message) (a .operators .now) (a .rides .now) (a .stamps .now) (a .index .now) (s .pre) in
     let i = c .before .before .fill-index in
-    take-done (a .head) (a .message) (a .operators .now) (a .rides .now) (a .stamps .now) (a .index .now) _ _ _ _ (ready .room .pairs .few-operators) (ready .room .pairs .few-rides) (c .before .before .before .before .before .before .before .before .before .before .before .before .enter .ensures) (s .pre) (i .result) _ (i .ensures .0) (i .ensures .1)
+    take-done (a .head) (a .message) (a .operators .now) (a .rides .now) (a .stamps .now) (a .index .now) _ _ _ _ (c .before .before .before .before .before .before .before .before .before .before .before .before .enter .ensures) (s .pre) (i .result) _ (i .ensures .0) (i .ensures .1)
 
 pub take-spec : {M : Type 1} → statement M
 take-spec =

@@ -1,4 +1,4 @@
--- `peels::peel_over` meets its contract: the tables hold the clearances, the list the limits of the nodes, and `peeling::peel` does the rest. Assumes nothing.
+-- `peels::peel_over` meets its contract: the tables hold the clearances, the list the limits of the nodes, and `peel_tables` does the rest. Assumes nothing.
 use borrow.Author.Needs.{needs}
 use mathlib.Core.List.{List}
 use mathlib.Core.Path.{refl, ap, _∙_}
@@ -8,7 +8,7 @@ use Rattle.model.specs.Calls.{PeelOutcome}
 use Rattle.model.specs.Layout.{graph}
 use Rattle.limits.specs.Limits.{limit-of}
 use Rattle.limits.proofs.Limits.{words-limits}
-use Rattle.peeling.proofs.Limits.{peeled-same}
+use Rattle.peels.proofs.Limits.{peeled-same}
 use Rattle.peels.proofs.peel_over.Statement.{statement}
 use Rattle.peels.proofs.peel_over.Tie as tie
 use Rattle.tables.proofs.fill.Reads as fill-reads′
@@ -19,8 +19,8 @@ fill-requires c κs = search needs
 fill-requires-2 : tie.Need-fill-requires-2
 fill-requires-2 c κs = search needs
 
-peel-requires : tie.Need-peel-requires
-peel-requires c κs = let s = c .before .before .before .before .before .before .before .before .before .before .before .before .before .before .before .before .before .before .before .before .before in ((graph (s .args .head) (s .args .operators .now) (s .args .rides .now), record { operators = refl; rides = refl; tables = c .before .before .before .before .before .before .before .before .before .before .before .before .fill .ensures; room = s .pre .0 .3; in-use = s .pre .1 }), omega (arith, s .pre .0 .2))
+peel-tables-requires : tie.Need-peel-tables-requires
+peel-tables-requires c κs = let s = c .before .before .before .before .before .before .before .before .before .before .before .before .before .before .before .before .before .before .before .before .before in ((graph (s .args .head) (s .args .operators .now) (s .args .rides .now), record { operators = refl; rides = refl; tables = c .before .before .before .before .before .before .before .before .before .before .before .before .fill .ensures; room = s .pre .0 .3; in-use = s .pre .1 }), omega (arith, s .pre .0 .2))
 
 same-length : tie.Need-same-length
 same-length c = search needs
@@ -39,7 +39,7 @@ returns c = let s = c .before .before .before .before .before .before .before .b
     let a = s .args in
     let g = graph (a .head) (a .operators .now) (a .rides .now) in
     let e = peeled-same g _ _ (λ x h. ap (λ (l : List ℕ). limit-of l x) (c .before .before .before .before .before .before .before .before .before .fill2 .ensures) ∙ words-limits g (a .alpha) (a .beta) (a .limits .now) x h) (a .steps) (a .marks .now) in
-    let p = c .before .before .peel .ensures g (record { operators = refl; rides = refl; tables = c .before .before .before .before .before .before .before .before .before .before .before .before .before .before .before .fill .ensures; room = s .pre .0 .3; in-use = s .pre .1 }) in
+    let p = c .before .before .peel-tables .ensures g (record { operators = refl; rides = refl; tables = c .before .before .before .before .before .before .before .before .before .before .before .before .before .before .before .fill .ensures; room = s .pre .0 .3; in-use = s .pre .1 }) in
     record { answer = p .answer ∙ ap (λ (o : PeelOutcome). o .answer) e; marks = p .marks ∙ ap (λ (o : PeelOutcome). o .marks) e }
 
 pub peel-over-spec : {M : Type 1} → statement M
@@ -48,7 +48,7 @@ peel-over-spec =
     (tie.spec
     fill-requires
     fill-requires-2
-    peel-requires
+    peel-tables-requires
     same-length
     same-length-2
     same-length-3

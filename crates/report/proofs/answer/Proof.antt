@@ -6,9 +6,10 @@ use native.Mathlib.Omega.{arith}
 use lib.ListN.{length}
 use Rattle.model.specs.declared.Head.{Head}
 use Rattle.report.specs.Program.{head}
-use Rattle.report.specs.Write.{Sizes, input-text}
+use Rattle.report.specs.Sizes.{Sizes, input-text}
 use Rattle.report.proofs.Sizes.{checked, text-refused, text-checked}
-use Rattle.report.proofs.Write.{wrote-most, reported}
+use Rattle.text.proofs.Write.{wrote-most}
+use Rattle.report.proofs.Report.{reported}
 use Rattle.report.proofs.answer.Statement.{statement}
 use Rattle.report.proofs.answer.Tie as tie
 

@@ -10,7 +10,7 @@ use Rattle.model.specs.Layout.{over}
 use Rattle.model.proofs.Count.{length-values}
 use Rattle.report.specs.Program.{word, words}
 use Rattle.report.proofs.Sizes.{pairs-fit}
-use Rattle.report.proofs.Write.{wrote-text}
+use Rattle.text.proofs.Write.{wrote-text}
 use Rattle.report.proofs.answer_input.Statement.{statement}
 use Rattle.report.proofs.answer_input.Tie as tie
 

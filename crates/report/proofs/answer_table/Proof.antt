@@ -13,7 +13,7 @@ use borrow.Author.Tests.{not-true, not-false, eq-eqb, ne-eqb}
 use Rattle.model.specs.Refusal.{refused-5}
 use Rattle.model.proofs.Store.{getD-zeros}
 use Rattle.report.proofs.Report.{table-5, table-11, table-cover}
-use Rattle.report.proofs.Write.{wrote-text, wrote-most}
+use Rattle.text.proofs.Write.{wrote-text, wrote-most}
 use Rattle.report.proofs.answer_table.Statement.{statement}
 use Rattle.report.proofs.answer_table.Tie as tie
 

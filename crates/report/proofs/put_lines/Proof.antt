@@ -1,7 +1,7 @@
 -- `report::put_lines` meets its contract. Assumes nothing.
 use borrow.Author.Needs.{needs}
 use Rattle.report.proofs.Report.{report-row}
-use Rattle.report.proofs.Write.{wrote-text}
+use Rattle.text.proofs.Write.{wrote-text}
 use Rattle.report.proofs.put_lines.Statement.{statement}
 use Rattle.report.proofs.put_lines.Tie as tie
 

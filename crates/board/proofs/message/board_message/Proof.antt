@@ -36,7 +36,7 @@ use denote.Triple.Clauses.{Lasts, atExit, lasts}
 use denote.Triple.Table.{entered, cited}
 use denote.Triple.Walked.{Stays, walkOf, Walks, ends-at, walked, walk-meets}
 use denote.Signature.{typesAt}
-use Rattle.messages.specs.Deliver.{with-pairs}
+use Rattle.entries.specs.Enter.{with-pairs}
 use Rattle.model.specs.declared.Head.{Head}
 use Rattle.model.specs.declared.Message.{Message}
 use Rattle.messages.specs.declared.Delivered.{Delivered}

@@ -9,7 +9,7 @@ use lib.Seq.{sets}
 use Rattle.model.specs.Count.{values}
 use Rattle.model.proofs.Count.{length-values}
 use Rattle.report.specs.Program.{word, words}
-use Rattle.report.proofs.Write.{sets-values, sets-over}
+use Rattle.text.proofs.Write.{sets-values, sets-over}
 use Rattle.report.proofs.input.copy_words.Statement.{statement}
 use Rattle.report.proofs.input.copy_words.Tie as tie
 

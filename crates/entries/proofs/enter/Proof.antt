@@ -1,0 +1,30 @@
+-- `entries::enter` meets its contract: the stamp stored and the pair arrays changed are what the board then says. Assumes nothing.
+use native.Mathlib.Omega.{arith}
+use Rattle.entries.proofs.Entering.{place-inside, entered-done}
+use Rattle.entries.proofs.enter.Statement.{statement}
+use Rattle.entries.proofs.enter.Tie as tie
+
+store-requires : tie.Need-store-requires
+store-requires c κs = let s = c .before .before .before .before in omega (arith, place-inside (s .args .head) (s .args .message) _ _ _ (s .pre), s .pre .room .stamps-long)
+
+change-requires : tie.Need-change-requires
+change-requires c κs = let p = c .before .before .before .before .before .before .before .before .before .before .pre in (p .room .pairs, p .operator, p .ride, p .room .operators-long, p .room .rides-long)
+
+same-length : tie.Need-same-length
+same-length c = c .before .before .before .operators .given
+
+same-length-2 : tie.Need-same-length-2
+same-length-2 c = c .before .rides .given
+
+same-length-3 : tie.Need-same-length-3
+same-length-3 c = c .before .before .before .before .before .before .before .before .before .stamps .given
+
+returns : tie.Need-returns
+returns c = let s = c .before .before .before .before .before .before .before .before .before .before .before .before .before .before .before in
+    let a = s .args in
+    entered-done (a .head) (a .message) (a .operators .now) (a .rides .now) (a .stamps .now) (s .pre) _ _ _ _ (c .before .before .before .before .before .before .before .before .before .before .store .ensures) (c .before .before .before .before .change .ensures)
+
+pub enter-spec : {M : Type 1} → statement M
+enter-spec =
+    tie.close
+    (tie.spec store-requires change-requires same-length same-length-2 same-length-3 returns)

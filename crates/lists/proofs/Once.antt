@@ -1,0 +1,155 @@
+-- The turns of a message list: laws of one turn, and that filling the index once, after the last, gives what the messages give one after another. Assumes nothing.
+use mathlib.Core.Path.{_≡_, refl, sym, ap, ap₂, _∙_, subst, subst₃}
+use mathlib.Core.Logic.{_≢_}
+use mathlib.Core.Bool.{Bool, true, false}
+use mathlib.Core.List.{List, []}
+use Prim.Native.Nat.{ℕ, zero, suc, _+_, _-_, _≤_, _<_}
+use native.Mathlib.Omega.{arith}
+use native.Mathlib.Nat.{zero-add}
+use lib.Dec.{T, eqb, eqb→eq}
+use borrow.Author.Tests.{eq-eqb, ne-eqb}
+use lib.ListN.{length, getD, set, take, drop, length-take, length-drop}
+use lib.Seq.{getD-take, getD-drop}
+use Rattle.model.specs.declared.Head.{Head}
+use Rattle.model.specs.declared.Message.{Message}
+use Rattle.model.specs.Count.{some}
+use Rattle.model.specs.Graph.{Graph, index-of}
+use Rattle.model.specs.Layout.{Index, Board, lent, index-places, over, onto, graph}
+use Rattle.model.specs.Contents.{Contents, slot, entry, put, board-of}
+use Rattle.model.specs.Refusal.{refused-7, refused-8, refused-9, first-number, message-cases, message-refusal, list-refusal}
+use Rattle.model.specs.Message.{MessageOutcome, board-after, board-message, ListOutcome}
+use Rattle.model.proofs.Count.{test-true, test-false, some-holds, some-witness, some-ext}
+use Rattle.model.proofs.Chain.{first-none}
+use Rattle.model.proofs.Refusal.{Accepted, tests-valid, message-accepted, list-none}
+use Rattle.model.proofs.Taken.{message-taken, message-refused}
+use Rattle.pairs.specs.Accepted.{AcceptedPairs}
+use Rattle.entries.specs.Enter.{Room, with-pairs, EnteredValid}
+use Rattle.lists.specs.Once.{with-index, entered, filled-index, finished, turned, turns-of, left-by}
+use Rattle.entries.proofs.Next.{room-of, says-same, next-pairs}
+
+-- ---- one of the numbers is 0, or none
+
+module _ (numbers : List ℕ) (n : ℕ) where
+  pub some-taken : (i : ℕ) → i < n → getD numbers i 0 ≡ 0 → true ≡ some n (λ k. eqb (getD numbers k 0) 0)
+  some-taken i l e = sym (test-true (some n (λ k. eqb (getD numbers k 0) 0)) (some-holds (λ k. eqb (getD numbers k 0) 0) n i l (subst T (sym (eq-eqb (getD numbers i 0) 0 e)) tt)))
+
+  pub none-taken : ((i : ℕ) → i < n → getD numbers i 0 ≢ 0) → false ≡ some n (λ k. eqb (getD numbers k 0) 0)
+  none-taken f = sym (test-false (some n (λ k. eqb (getD numbers k 0) 0)) (λ t. let w = some-witness (λ k. eqb (getD numbers k 0) 0) n t in f (w .0) (w .1) (eqb→eq (getD numbers (w .0) 0) 0 (w .2))))
+
+-- ---- a list's number
+
+pub all-turns : (code messages : ℕ) → code ≡ 0 → record { code = code; turns = messages } ≡ turns-of code messages
+all-turns zero messages e = refl
+all-turns (suc k) messages e = absurd (let z : ⊥ = omega (arith, e) in z)
+
+pub no-turns : (code messages : ℕ) → (code ≡ 0 → ⊥) → record { code = code; turns = 0 } ≡ turns-of code messages
+no-turns zero messages n = absurd (n refl)
+no-turns (suc k) messages n = refl
+
+-- ---- the index, filled or not
+
+module _ (n : ℕ) (g : Graph) (index answers : List ℕ) where
+  pub filled-yes : some n (λ i. eqb (getD answers i 0) 0) ≡ true → filled-index n g index answers ≡ over (index-of g) index
+  unfolding filled-index
+  filled-yes e = rw (e, filled-index)
+
+  pub filled-no : some n (λ i. eqb (getD answers i 0) 0) ≡ false → filled-index n g index answers ≡ index
+  unfolding filled-index
+  filled-no e = rw (e, filled-index)
+
+  -- the first n answers, lent as a part
+  pub filled-part : n ≤ length answers → filled-index (length (take (n - 0) (drop 0 answers))) g index (take (n - 0) (drop 0 answers)) ≡ filled-index n g index answers
+  unfolding filled-index
+  filled-part l =
+      let part : List ℕ = take (n - 0) (drop 0 answers) in
+      let size : length part ≡ n = simp (length-take, length-drop) (omega arith) in
+      ap (λ (t : Bool). elim t [ true ↦ over (index-of g) index | false ↦ index ])
+      (ap (λ (k : ℕ). some k (λ i. eqb (getD part i 0) 0)) size ∙
+      some-ext (λ i. eqb (getD part i 0) 0) (λ i. eqb (getD answers i 0) 0) n (λ i k. ap (λ (x : ℕ). eqb x 0) (getD-take (n - 0) (drop 0 answers) i 0 (omega arith) ∙ getD-drop 0 answers i 0 ∙ ap (λ (j : ℕ). getD answers j 0) (zero-add i))))
+
+-- ---- one turn
+
+-- a message call's number
+pub message-code : (b : Board) (m : Message) → board-message b m .answer .code ≡ message-refusal b m
+message-code b m = go (message-refusal b m) refl
+  where
+    go : (k : ℕ) → message-refusal b m ≡ k → board-message b m .answer .code ≡ k
+    go zero e = ap (λ (o : MessageOutcome). o .answer .code) (message-taken b m e)
+    go (suc k) e = ap (λ (o : MessageOutcome). o .answer .code) (message-refused b m k e)
+
+module _ (b : Board) (m : Message) where
+  pub entered-taken : message-refusal b m ≡ 0 → entered b m ≡ with-index (board-after b m) (b .part Index)
+  unfolding entered
+  entered-taken e = rw (e, entered)
+
+  pub entered-refused : (k : ℕ) → message-refusal b m ≡ suc k → entered b m ≡ b
+  unfolding entered
+  entered-refused k e = rw (e, entered)
+
+module _ (h : Head) (m : Message) (operators rides stamps index : List ℕ) (n : ℕ) (answers : List ℕ) (none : list-refusal (lent h operators rides stamps index) n answers ≡ 0) where
+  abbrev board : Board
+  board = lent h operators rides stamps index
+
+  accepted : Accepted board
+  accepted = list-none board n answers none .0
+
+  pub turn-room : Room h operators rides stamps
+  turn-room = room-of h operators rides stamps index accepted
+
+  pub turn-answers : n ≤ length answers
+  turn-answers = list-none board n answers none .1
+
+  pub turn-index : index-places h ≤ length index
+  turn-index = accepted .table .long Index
+
+  module _ (code count : ℕ) (operators′ rides′ stamps′ : List ℕ) (done : EnteredValid h m operators rides stamps code count operators′ rides′ stamps′) where
+    number : code ≡ message-refusal board m
+    number = done .number index ∙ sym (message-accepted board m accepted)
+
+    abbrev next-board : List ℕ → Board
+    next-board index′ = lent (with-pairs h count) operators′ rides′ stamps′ index′
+
+    -- the parts are those of the board once the message is entered
+    entered-is : next-board index ≡ entered board m
+    unfolding board-after
+    entered-is = go code refl
+      where
+        go : (k : ℕ) → code ≡ k → next-board index ≡ entered board m
+        go zero e =
+            let w = done .taken e in
+            (λ j. lent (with-pairs h (w .pairs j)) (w .operator-words j) (w .ride-words j) (w .stamp-words j) index) ∙
+            ap (λ (s : Contents). with-index (onto (board-of h (put s (slot m) (entry m))) (board .part)) index) (says-same h m operators rides stamps index) ∙
+            sym (entered-taken board m (sym number ∙ e))
+        go (suc k) e =
+            let w = done .kept (λ z. let y : ⊥ = omega (arith, e) in y) in
+            (λ j. lent (with-pairs h (w .0 j)) (w .1 j) (w .2 j) (w .3 j) index) ∙ sym (entered-refused board m k (sym number ∙ e))
+
+    pub turn-pairs : AcceptedPairs (with-pairs h count) operators′ rides′
+    turn-pairs = go code refl
+      where
+        go : (k : ℕ) → code ≡ k → AcceptedPairs (with-pairs h count) operators′ rides′
+        go zero e = next-pairs h m operators rides stamps index count operators′ rides′ stamps′ (done .taken e) (turn-room .pairs .few-operators) (turn-room .pairs .few-rides)
+        go (suc k) e =
+            let w = done .kept (λ z. let y : ⊥ = omega (arith, e) in y) in
+            subst₃ (λ (x : ℕ) (y z : List ℕ). AcceptedPairs (with-pairs h x) y z) (sym (w .0)) (sym (w .1)) (sym (w .2)) (turn-room .pairs)
+
+    module _ (at : ℕ) where
+      abbrev numbers : ℕ → List ℕ
+      numbers k = set answers at k
+
+      abbrev outcome : Board → List ℕ → ListOutcome
+      outcome b l = record { code = 0; board = b; answers = l }
+
+      same-numbers : numbers code ≡ numbers (board-message board m .answer .code)
+      same-numbers = ap numbers (number ∙ sym (message-code board m))
+
+      pub turn-on : at + 1 ≢ n → left-by (with-pairs h count) operators′ rides′ stamps′ index (numbers code) ≡ turned n board m at answers
+      unfolding turned
+      turn-on ne = ap₂ outcome entered-is same-numbers ∙ rw (ne-eqb (at + 1) n ne, turned)
+
+      pub turn-last : at + 1 ≡ n → (index′ : List ℕ) → index′ ≡ filled-index n (graph (with-pairs h count) operators′ rides′) index (numbers code) → left-by (with-pairs h count) operators′ rides′ stamps′ index′ (numbers code) ≡ turned n board m at answers
+      unfolding turned
+      turn-last e index′ i =
+          ap (λ (x : List ℕ). outcome (next-board x) (numbers code)) i ∙
+          ap₂ (λ (b : Board) (l : List ℕ). outcome (finished n b l) l) entered-is same-numbers ∙
+          rw (eq-eqb (at + 1) n e, turned)

@@ -1,0 +1,116 @@
+// The turns of a message list: each message is entered, and the index is filled once.
+ghost use mathlib.Core.Path.{_≡_};
+ghost use Prim.Native.Nat.{_<_, _≤_};
+ghost use lib.Dec.{eqb};
+ghost use lib.ListN.{length, getD};
+ghost use Rattle.model.specs.Count.{some};
+ghost use Rattle.model.specs.Layout.{lent, index-places, graph};
+ghost use Rattle.model.specs.Refusal.{list-refusal};
+ghost use Rattle.pairs.specs.Accepted.{AcceptedPairs};
+ghost use Rattle.entries.specs.Enter.{with-pairs};
+ghost use Rattle.lists.specs.Once.{turns-of, filled-index, left-by, turned};
+use model::Head;
+use model::Message;
+
+// A list's number, and how many of its messages have a turn.
+pub struct Turns {
+    pub code: u16,
+    pub turns: usize,
+}
+
+// The number of a list of so many messages; all of them have a turn where it is 0, and else none.
+pub fn list_turns(
+    head: Head,
+    messages: usize,
+    operators: &[u16],
+    rides: &[u16],
+    stamps: &[u32],
+    index: &[u16],
+    answers: &[u16],
+) -> Turns
+    ensures { λ r. ⌜
+        r
+        ≡ turns-of
+        (list-refusal (lent head (now (operators .entry)) (now (rides .entry)) (now (stamps .entry)) (now (index .entry))) messages
+        (now (answers .entry))) messages
+        ⌝ }
+{
+    let code = message_refusals::list_number(
+        head,
+        messages,
+        operators,
+        rides,
+        stamps,
+        index,
+        answers,
+    );
+    if code == 0 {
+        return Turns {
+            code,
+            turns: messages,
+        };
+    }
+    Turns { code, turns: 0 }
+}
+
+// Whether one of these numbers is 0.
+fn any_taken(numbers: &[u16]) -> bool
+    ensures { λ r. ⌜ r ≡ some (length (now (numbers .entry))) (λ i. eqb (getD (now (numbers .entry)) i 0) 0) ⌝ }
+{
+    let n = numbers.len();
+    let mut i = 0;
+    while i < n {
+        if numbers[i] == 0 {
+            return true;
+        }
+        i += 1;
+    }
+    false
+}
+
+// Fills the index, if one of these numbers is 0.
+fn finish(head: Head, operators: &[u16], rides: &[u16], index: &mut [u16], numbers: &[u16])
+    requires { ⌜ AcceptedPairs head (now operators) (now rides) × (index-places head ≤ length (now index)) ⌝ }
+    ensures { λ _. ⌜
+        now (index .exit)
+        ≡ filled-index (length (now (numbers .entry))) (graph head (now (operators .entry)) (now (rides .entry))) (now (index .entry))
+        (now (numbers .entry))
+        ⌝ }
+{
+    if any_taken(numbers) {
+        levels::fill_index(head, operators, rides, index);
+    }
+}
+
+// One of n messages of a list: it is entered and its number stored at its place, and after the last one the index is filled. The number of pairs.
+pub fn turn(
+    head: Head,
+    message: Message,
+    at: usize,
+    n: usize,
+    operators: &mut [u16],
+    rides: &mut [u16],
+    stamps: &mut [u32],
+    index: &mut [u16],
+    answers: &mut [u16],
+) -> u16
+    requires { ⌜ (list-refusal (lent head (now operators) (now rides) (now stamps) (now index)) n (now answers) ≡ 0) × (at < n) ⌝ }
+    ensures { λ r. ⌜
+        left-by (with-pairs head r) (now (operators .exit)) (now (rides .exit)) (now (stamps .exit)) (now (index .exit)) (now (answers .exit))
+        ≡ turned n (lent head (now (operators .entry)) (now (rides .entry)) (now (stamps .entry)) (now (index .entry))) message at
+        (now (answers .entry))
+        ⌝ }
+{
+    let entered = entries::enter_valid(head, message, operators, rides, stamps);
+    answers[at] = entered.code;
+    let pairs = entered.pairs;
+    if at + 1 == n {
+        let next = Head {
+            operators: head.operators,
+            rides: head.rides,
+            pairs,
+        };
+        finish(next, operators, rides, index, &answers[0..n]);
+    }
+    pairs
+}

@@ -1,0 +1,73 @@
+-- The marks and counts of one row: operators and rides are counted together, the rides in their marks once more. Assumes nothing.
+use mathlib.Core.Path.{_≡_, refl, sym, ap, _∙_}
+use mathlib.Core.List.{List, _++_}
+use Prim.Native.Nat.{ℕ, zero, suc, _+_, _-_, _≤_, _<_}
+use native.Mathlib.Omega.{arith}
+use lib.Dec.{leb, eqb}
+use lib.ListN.{length, getD, take, drop, length-take, length-drop, length-append, List·getD-append}
+use lib.Seq.{getD-take, getD-drop, drop-at}
+use Rattle.model.specs.Count.{bit, count}
+use Rattle.model.specs.Graph.{marked}
+use Rattle.model.proofs.Count.{bit-le, bit-test, count-append, count-ext}
+use Rattle.marks.specs.Marks.{Marked, RowMarked}
+
+-- a mark that is 0 or 1 counts itself
+pub bit-of : (z : ℕ) → z ≤ 1 → bit (eqb z 1) ≡ z
+bit-of zero l = refl
+bit-of (suc zero) l = refl
+bit-of (suc (suc z)) l = absurd (let k : ⊥ = omega arith in k)
+
+-- ---- one row
+
+module _ (row marks : List ℕ) (n β : ℕ) (h : n ≤ length row) (l : length row ≤ length marks) (all : ℕ) (words : List ℕ) (m : Marked row β all words) (same : length words ≡ length (take (length row - 0) marks)) where
+  abbrev w : ℕ
+  w = length row
+
+  abbrev done : List ℕ
+  done = words ++ drop (w - 0) marks
+
+  -- the marks of the rides
+  abbrev part : List ℕ
+  part = take (w - n) (drop n done)
+
+  words-long : length words ≡ w
+  words-long = same ∙ simp length-take (omega arith)
+
+  done-at : (i : ℕ) → i < w → getD done i 0 ≡ bit (leb β (getD row i 0))
+  done-at i k = List·getD-append words (drop (w - 0) marks) 0 i (omega (arith, words-long)) ∙ m .marks-are i k
+
+  pub part-long : length part ≡ w - n
+  part-long = simp (length-take, length-drop, length-append) (omega (arith, words-long))
+
+  part-at-ride : (i : ℕ) → i < w - n → getD part i 0 ≡ bit (leb β (getD row (n + i) 0))
+  part-at-ride i k = getD-take (w - n) (drop n done) i 0 k ∙ getD-drop n done i 0 ∙ done-at (n + i) (omega arith)
+
+  pub part-bits : (i : ℕ) → i < length part → getD part i 0 ≤ 1
+  part-bits i k = let l : i < w - n = omega (arith, part-long) in omega (arith, part-at-ride i l, bit-le (leb β (getD row (n + i) 0)))
+
+  module _ (r : ℕ) (counted : r ≡ count (length part) (marked part)) where
+    rides-are : r ≡ count (w - n) (λ i. leb β (getD row (n + i) 0))
+    rides-are =
+        counted ∙
+        ap (λ (k : ℕ). count k (marked part)) part-long ∙
+        count-ext (marked part) (λ (i : ℕ). leb β (getD row (n + i) 0)) (w - n) (λ i k. ap (λ (z : ℕ). eqb z 1) (part-at-ride i k) ∙ bit-test (leb β (getD row (n + i) 0)))
+
+    all-is : all ≡ count n (λ i. leb β (getD row i 0)) + r
+    all-is =
+        m .counted ∙
+        ap (λ (k : ℕ). count k (λ (i : ℕ). leb β (getD row i 0))) (let e : w ≡ n + (w - n) = omega arith in e) ∙
+        count-append (λ (i : ℕ). leb β (getD row i 0)) n (w - n) ∙
+        ap (λ (k : ℕ). count n (λ (i : ℕ). leb β (getD row i 0)) + k) (sym rides-are)
+
+    pub rides-le : r ≤ all
+    rides-le = omega (arith, all-is)
+
+    pub row-marked : RowMarked row n β marks (record { code = 0; operators = all - r; rides = r }) done
+    row-marked =
+        record {
+          code = refl;
+          operators = omega (arith, all-is);
+          rides = rides-are;
+          marks-are = done-at;
+          tail = drop-at words (drop (w - 0) marks) w words-long ∙ ap (λ (k : ℕ). drop k marks) (let e : w - 0 ≡ w = omega arith in e);
+        }

@@ -1,0 +1,132 @@
+-- 6 to 10: the tests of a board's stamps and of a message, and their place behind 1 to 5. Assumes nothing.
+use mathlib.Core.Path.{_≡_, refl, sym, _∙_, subst}
+use mathlib.Core.Logic.{_≢_}
+use mathlib.Core.Bool.{Bool, true, false, _||_}
+use mathlib.Core.List.{List, [], _∷_, _++_}
+use Prim.Native.Nat.{ℕ, _≤_, _<_}
+use native.Mathlib.Omega.{arith}
+use lib.Dec.{T, leb, eqb, le→leb, eqb→eq, not-T}
+use borrow.Author.Tests.{eq-eqb}
+use lib.ListN.{length}
+use Rattle.model.specs.declared.Head.{Head}
+use Rattle.model.specs.declared.Message.{Message}
+use Rattle.model.specs.Layout.{Operators, Rides, Stamps, Board, pair-places}
+use Rattle.model.specs.Refusal.{refused-1, refused-2, refused-3, refused-4, refused-5, refused-6, refused-7, refused-8, refused-9, refused-10, board-short, first-number, table-cases, board-cases, message-cases, message-refusal, list-refusal}
+use Rattle.model.proofs.Count.{or-left, or-right, or-cases}
+use Rattle.model.proofs.Chain.{first-nil, first-here, first-skip, first-none, enough, Positive, first-front, first-behind}
+use Rattle.model.proofs.Refusal.{table-none, Valid, valid-kind, valid-pair, valid-stamp, tests-valid}
+use Rattle.pairs.specs.Accepted.{AcceptedPairs}
+use Rattle.refusals.proofs.Chain.{table-first, table-rest}
+
+-- where none of 1 to 5 applies to a pair table that is long enough, it is accepted
+pub table-accepted : (h : Head) (short : Bool) (operators rides : List ℕ) (cs : List (ℕ × Bool)) → first-number (table-cases h short operators rides ++ cs) ≡ 0 → pair-places h ≤ length operators → pair-places h ≤ length rides → AcceptedPairs h operators rides
+table-accepted h short operators rides cs e a b =
+    let n1 = first-none 0 (refused-1 h) _ e in
+    let n2 = first-none 1 (refused-2 h) _ (n1 .1) in
+    let n3 = first-none 2 short _ (n2 .1) in
+    let n4 = first-none 3 (refused-4 h) _ (n3 .1) in
+    let n5 = first-none 4 (refused-5 h operators rides) _ (n4 .1) in
+    let few = enough (pair-places h) (h .pairs) (n4 .0) in
+    record {
+      few-operators = enough 200 (h .operators) (n1 .0);
+      few-rides = enough 60 (h .rides) (n2 .0);
+      operators-long = omega arith;
+      rides-long = omega arith;
+      ordered = n5 .0;
+    }
+
+pub board-accepted : (b : Board) (cs : List (ℕ × Bool)) → first-number (table-cases (b .head) (board-short b) (b .part Operators) (b .part Rides) ++ cs) ≡ 0 → AcceptedPairs (b .head) (b .part Operators) (b .part Rides) × (pair-places (b .head) ≤ length (b .part Stamps))
+board-accepted b cs e =
+    let t = table-none b (board-short b) cs (λ s. s) e in
+    (table-accepted (b .head) (board-short b) (b .part Operators) (b .part Rides) cs e (t .0 .long Operators) (t .0 .long Rides), t .0 .long Stamps)
+
+-- 1 to 6, as the code goes through them
+module _ (b : Board) (short : Bool) (k : ℕ) (e : k ≡ first-number (table-cases (b .head) short (b .part Operators) (b .part Rides))) where
+  abbrev six : List (ℕ × Bool)
+  six = (6, refused-6 b) ∷ []
+
+  pub stamped-table : k ≢ 0 → k ≡ first-number (table-cases (b .head) short (b .part Operators) (b .part Rides) ++ six)
+  stamped-table n = table-first (b .head) short (b .part Operators) (b .part Rides) six k e n
+
+  pub stamped-6 : k ≡ 0 → refused-6 b ≡ true → 6 ≡ first-number (table-cases (b .head) short (b .part Operators) (b .part Rides) ++ six)
+  stamped-6 z t = sym (first-here 6 (refused-6 b) [] (subst T (sym t) tt)) ∙ table-rest (b .head) short (b .part Operators) (b .part Rides) six k e z
+
+  pub stamped-0 : k ≡ 0 → refused-6 b ≡ false → 0 ≡ first-number (table-cases (b .head) short (b .part Operators) (b .part Rides) ++ six)
+  stamped-0 z t = sym (first-skip 6 (refused-6 b) [] (λ x. subst T t x) ∙ first-nil) ∙ table-rest (b .head) short (b .part Operators) (b .part Rides) six k e z
+
+-- ---- 7 to 9
+
+module _ (h : Head) (m : Message) where
+  abbrev pub validity : List (ℕ × Bool)
+  validity = (7, refused-7 m) ∷ (8, refused-8 h m) ∷ (9, refused-9 (m .stamp)) ∷ []
+
+  number-7 : (m .kind ≢ 1) → (m .kind ≢ 2) → 7 ≡ first-number validity
+  number-7 p q =
+      sym (first-here 7 (refused-7 m) _ (not-T (eqb (m .kind) 1 || eqb (m .kind) 2) (λ t. or-cases (eqb (m .kind) 1) (eqb (m .kind) 2) t (λ s. p (eqb→eq (m .kind) 1 s)) (λ s. q (eqb→eq (m .kind) 2 s)))))
+
+  pub kind-zero : m .kind ≡ 0 → 7 ≡ first-number validity
+  kind-zero e = number-7 (omega arith) (omega arith)
+
+  pub kind-over : 2 < m .kind → 7 ≡ first-number validity
+  kind-over l = number-7 (omega arith) (omega arith)
+
+  module _ (low : 1 ≤ m .kind) (high : m .kind ≤ 2) where
+    seven : first-number validity ≡ first-number ((8, refused-8 h m) ∷ (9, refused-9 (m .stamp)) ∷ [])
+    seven = first-skip 7 (refused-7 m) _ (valid-kind h m low high)
+
+    pub operator-over : h .operators ≤ m .operator → 8 ≡ first-number validity
+    operator-over l = sym (seven ∙ first-here 8 (refused-8 h m) _ (or-left (leb (h .operators) (m .operator)) (leb (h .rides) (m .ride)) (le→leb (h .operators) (m .operator) l)))
+
+    pub ride-over : h .rides ≤ m .ride → 8 ≡ first-number validity
+    ride-over l = sym (seven ∙ first-here 8 (refused-8 h m) _ (or-right (leb (h .operators) (m .operator)) (leb (h .rides) (m .ride)) (le→leb (h .rides) (m .ride) l)))
+
+    module _ (o : m .operator < h .operators) (r : m .ride < h .rides) where
+      eight : first-number validity ≡ first-number ((9, refused-9 (m .stamp)) ∷ [])
+      eight = seven ∙ first-skip 8 (refused-8 h m) _ (valid-pair h m o r)
+
+      pub stamp-zero : m .stamp ≡ 0 → 9 ≡ first-number validity
+      stamp-zero e = sym (eight ∙ first-here 9 (refused-9 (m .stamp)) [] (subst T (sym (eq-eqb (m .stamp) 0 e)) tt))
+
+      pub all-valid : 1 ≤ m .stamp → 0 ≡ first-number validity
+      all-valid l = sym (eight ∙ first-skip 9 (refused-9 (m .stamp)) [] (valid-stamp h m l) ∙ first-nil)
+
+  pub none-valid : first-number validity ≡ 0 → Valid h m
+  none-valid e =
+      let n7 = first-none 6 (refused-7 m) _ e in
+      let n8 = first-none 7 (refused-8 h m) _ (n7 .1) in
+      tests-valid h m (n7 .0) (n8 .0) (first-none 8 (refused-9 (m .stamp)) [] (n8 .1) .0)
+
+-- ---- 7 to 10, and all of a message's numbers
+
+module _ (b : Board) (m : Message) where
+  positive-9 : Positive (validity (b .head) m)
+  positive-9 = (omega arith, (omega arith, (omega arith, tt)))
+
+  module _ (j : ℕ) (f : j ≡ first-number (validity (b .head) m)) where
+    pub entry-invalid : j ≢ 0 → j ≡ first-number (message-cases b m)
+    entry-invalid n = f ∙ sym (first-front ((10, refused-10 b m) ∷ []) (validity (b .head) m) positive-9 (λ y. n (f ∙ y)))
+
+    module _ (y : j ≡ 0) where
+      last-test : first-number ((10, refused-10 b m) ∷ []) ≡ first-number (message-cases b m)
+      last-test = sym (first-behind ((10, refused-10 b m) ∷ []) (validity (b .head) m) positive-9 (sym f ∙ y))
+
+      pub entry-10 : refused-10 b m ≡ true → 10 ≡ first-number (message-cases b m)
+      entry-10 t = sym (first-here 10 (refused-10 b m) [] (subst T (sym t) tt)) ∙ last-test
+
+      pub entry-0 : refused-10 b m ≡ false → 0 ≡ first-number (message-cases b m)
+      entry-0 t = sym (first-skip 10 (refused-10 b m) [] (λ x. subst T t x) ∙ first-nil) ∙ last-test
+
+  positive-6 : Positive (board-cases b (board-short b))
+  positive-6 = (omega arith, (omega arith, (omega arith, (omega arith, (omega arith, (omega arith, tt))))))
+
+  pub message-board : (k : ℕ) → k ≡ first-number (board-cases b (board-short b)) → k ≢ 0 → k ≡ message-refusal b m
+  unfolding message-refusal
+  message-board k e n = e ∙ sym (first-front (message-cases b m) (board-cases b (board-short b)) positive-6 (λ z. n (e ∙ z)))
+
+  pub message-entry : (k : ℕ) → k ≡ first-number (board-cases b (board-short b)) → k ≡ 0 → first-number (message-cases b m) ≡ message-refusal b m
+  unfolding message-refusal
+  message-entry k e z = sym (first-behind (message-cases b m) (board-cases b (board-short b)) positive-6 (sym e ∙ z))
+
+pub list-board : (b : Board) (messages : ℕ) (answers : List ℕ) → first-number (board-cases b (board-short b || refused-3 messages answers)) ≡ list-refusal b messages answers
+unfolding list-refusal
+list-board b messages answers = refl

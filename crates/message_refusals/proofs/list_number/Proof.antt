@@ -1,0 +1,28 @@
+-- `message_refusals::list_number` meets its contract. Assumes nothing.
+use borrow.Author.Needs.{needs}
+use mathlib.Core.Path.{sym, ap, subst, _∙_}
+use mathlib.Core.Bool.{Bool}
+use lib.Dec.{T}
+use Rattle.model.specs.Layout.{Operators, Rides, Stamps, lent}
+use Rattle.model.specs.Refusal.{refused-3, board-short, first-number, board-cases}
+use Rattle.model.proofs.Count.{or-left}
+use Rattle.model.proofs.Parts.{board-long}
+use Rattle.message_refusals.proofs.Message.{list-board}
+use Rattle.message_refusals.proofs.list_number.Statement.{statement}
+use Rattle.message_refusals.proofs.list_number.Tie as tie
+
+short-list-requires : tie.Need-short-list-requires
+short-list-requires c κs = search needs
+
+board-number-requires : tie.Need-board-number-requires
+board-number-requires c κs = let a = c .before .before .before .before .before .before .args in
+    let b = lent (a .head) (a .operators .now) (a .rides .now) (a .stamps .now) (a .index .now) in
+    λ e. let l = board-long b (λ t. subst T (sym (c .short-list .ensures) ∙ e) (or-left (board-short b) (refused-3 (a .messages) (a .answers .now)) t)) in (l Operators, l Rides, l Stamps)
+
+returns : tie.Need-returns
+returns c = let a = c .before .before .before .before .before .before .before .args in
+    let b = lent (a .head) (a .operators .now) (a .rides .now) (a .stamps .now) (a .index .now) in
+    c .board-number .ensures (a .index .now) ∙ ap (λ (z : Bool). first-number (board-cases b z)) (c .before .short-list .ensures) ∙ list-board b (a .messages) (a .answers .now)
+
+pub list-number-spec : {M : Type 1} → statement M
+list-number-spec = tie.close (tie.spec short-list-requires board-number-requires returns)

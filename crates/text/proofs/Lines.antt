@@ -1,0 +1,40 @@
+-- Laws of the lines of a cover: the same members and levels, and the parts that are written one after the other. Assumes nothing.
+use mathlib.Core.Path.{_≡_, refl, ap₂}
+use mathlib.Core.Bool.{Bool}
+use mathlib.Core.List.{List, _++_}
+use Prim.Native.Nat.{ℕ, zero, suc, _+_, _<_}
+use native.Mathlib.Nat.{zero-add}
+use native.Mathlib.Omega.{arith}
+use Rattle.model.specs.Count.{count}
+use Rattle.model.proofs.Count.{count-ext}
+use Rattle.text.specs.Text.{bytes, first-line, member-line, member-lines, report-text}
+use Rattle.text.specs.Write.{level-at, member-at}
+
+module _ (name : List ℕ) (p q : ℕ → Bool) (f g : ℕ → ℕ) where
+  pub member-lines-ext : (k : ℕ) → ((i : ℕ) → i < k → p i ≡ q i) → ((i : ℕ) → i < k → f i ≡ g i) → member-lines name p f k ≡ member-lines name q g k
+  unfolding member-lines
+  member-lines-ext zero h l = refl
+  member-lines-ext (suc k) h l =
+      ap₂ _++_
+      (member-lines-ext k (λ i b. h i (omega arith)) (λ i b. l i (omega arith)))
+      (ap₂ (λ (b : Bool) (z : ℕ). member-line name b k z) (h k (omega arith)) (l k (omega arith)))
+
+module _ (α β n m : ℕ) (p q : ℕ → Bool) (f g : ℕ → ℕ) where
+  pub report-ext : ((x : ℕ) → x < n + m → p x ≡ q x) → ((x : ℕ) → x < n + m → f x ≡ g x) → report-text α β n m p f ≡ report-text α β n m q g
+  unfolding report-text
+  report-ext h l =
+      ap₂ _++_
+      (ap₂ _++_
+      (ap₂ (first-line α β) (count-ext p q n (λ u b. h u (omega arith))) (count-ext (λ v. p (n + v)) (λ v. q (n + v)) m (λ v b. h (n + v) (omega arith))))
+      (member-lines-ext (bytes "operator ") p q f g n (λ u b. h u (omega arith)) (λ u b. l u (omega arith))))
+      (member-lines-ext (bytes "ride ") (λ v. p (n + v)) (λ v. q (n + v)) (λ v. f (n + v)) (λ v. g (n + v)) m (λ v b. h (n + v) (omega arith)) (λ v b. l (n + v) (omega arith)))
+
+-- the text from a row of levels: the parts that are written one after the other
+pub row-text :
+    (α β n m : ℕ) (levels : List ℕ) →
+    first-line α β (count n (member-at β levels 0)) (count m (member-at β levels n)) ++
+    member-lines (bytes "operator ") (member-at β levels 0) (level-at levels 0) n ++
+    member-lines (bytes "ride ") (member-at β levels n) (level-at levels n) m ≡
+    report-text α β n m (member-at β levels 0) (level-at levels 0)
+unfolding report-text
+row-text α β n m levels = simp zero-add
