@@ -8,8 +8,9 @@ use Rattle.model.specs.Count.{bit}
 use Rattle.model.specs.Graph.{Graph, nodes, settled, removals, peel}
 use Rattle.model.specs.Calls.{peeled}
 use Rattle.model.proofs.Peel.{steps-past, settled-past, peel-past}
-use Rattle.peeling.specs.declared.State.{State}
-use Rattle.peeling.specs.Steps.{Started, first-marks, Ran}
+use Rattle.states.specs.declared.State.{State}
+use Rattle.states.specs.Steps.{Started, first-marks}
+use Rattle.peeling.specs.Run.{Ran}
 use Rattle.peels.specs.Peel.{Gives}
 
 module _ (g : Graph) (limit : ℕ → ℕ) (allowed : ℕ) (came : List ℕ) (room : nodes g ≤ length came) (s₀ s : State) (start : Started g came s₀) (run : Ran g limit allowed s₀ s) where

@@ -13,7 +13,7 @@ ghost use Rattle.degrees.specs.Degrees.{Ready};
 ghost use Rattle.peels.specs.Peel.{Gives};
 use model::Head;
 use model::Peeled;
-use peeling::State;
+use states::State;
 
 // Peel: clears marks, each time the lowest operator that falls short of its limit, else the lowest ride, in at most the allowed steps.
 fn peel_tables(
@@ -34,12 +34,13 @@ fn peel_tables(
 {
     let operators = head.operators as usize;
     let rides = head.rides as usize;
-    let last = State::start(head, rows, columns, marks).run(rows, columns, limits, allowed);
+    let first = State::start(head, rows, columns, marks);
+    let last = peeling::run(first, rows, columns, limits, allowed);
     let left = last.marks;
     words::copy(&left, marks, operators + rides);
     Peeled {
         code: 0,
-        settled: last.settled(limits),
+        settled: peeling::is_settled(last, limits),
         steps: last.steps,
     }
 }

@@ -43,8 +43,8 @@ copy-requires c κs =
       omega (arith, o .operators, o .rides, o .room),
     )
 
-settled-requires : tie.Need-settled-requires
-settled-requires c κs =
+is-settled-requires : tie.Need-is-settled-requires
+is-settled-requires c κs =
     let r = c .before .before .before .before .before .before in
     let s = r .before .before .before .before .before .before .before .before .before in
     let p = s .pre .0 in
@@ -63,7 +63,7 @@ returns c = λ g o.
     let w = r .run .ensures g (o .tables) (z .state) in
     let e : a .head .operators + a .head .rides ≡ nodes g = omega (arith, o .operators, o .rides) in
     peel-gives g _ _ _ (o .room) _ _ z w _ _
-    (c .settled .ensures g (w .state))
+    (c .is-settled .ensures g (w .state))
     (c .before .before .before .copy .ensures ∙ ap (λ (k : ℕ). take k (r .run .result .marks) ++ drop k (a .marks .now)) e)
 
 pub peel-tables-spec : {M : Type 1} → statement M
@@ -77,6 +77,6 @@ peel-tables-spec =
     slice-aggregate-copy
     add-copy
     copy-requires
-    settled-requires
+    is-settled-requires
     same-length
     returns)

@@ -11,9 +11,9 @@ use lib.Dec.{T, ltb}
 use lib.ListN.{length, getD, set, take, drop}
 use Rattle.model.specs.Graph.{Graph, nodes, degree, marked, short}
 use Rattle.model.proofs.Peel.{marked-cleared, marked-other, degree-lost-ride, degree-lost-operator, degree-same-operator, degree-same-ride}
-use Rattle.peeling.specs.declared.State.{State}
+use Rattle.states.specs.declared.State.{State}
 use Rattle.tables.specs.Table.{Tables}
-use Rattle.peeling.specs.Steps.{StateOf, Clears, Cleared, Stepped}
+use Rattle.states.specs.Steps.{StateOf, Clears, Cleared, Stepped}
 use Rattle.degrees.proofs.Rows.{row-length, row-at}
 
 -- who falls short, read off the state

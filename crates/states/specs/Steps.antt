@@ -1,10 +1,10 @@
--- Inner contracts: what a state of a peel is, and what its step and a run of steps leave.
+-- Inner contracts: what a state of a peel is, and what its step leaves.
 use mathlib.Core.Path.{_≡_}
 use mathlib.Core.List.{List, _++_}
 use Prim.Native.Nat.{ℕ, _+_, _-_, _≤_, _<_}
 use lib.ListN.{length, getD, set, take, drop, replicate}
-use Rattle.peeling.specs.declared.State.{State}
-use Rattle.model.specs.Graph.{Graph, nodes, removals, peel}
+use Rattle.states.specs.declared.State.{State}
+use Rattle.model.specs.Graph.{Graph, nodes}
 use Rattle.degrees.specs.Degrees.{MarkedDegrees}
 
 -- a state of a peel of g: its sizes, and the remaining degrees that travel with the marks
@@ -44,10 +44,4 @@ pub record Cleared (s : State) (x from : ℕ) (row : List ℕ) (r : State) : Typ
 pub record Stepped (g : Graph) (s : State) (x : ℕ) (r : State) : Type 0 where
   pub steps : r .steps ≡ s .steps + 1
   pub marks : r .marks ≡ set (s .marks) x 0
-  pub state : StateOf g r
-
--- at most the allowed steps from s: r has taken the removals of the definition, and has the marks that they leave
-pub record Ran (g : Graph) (limit : ℕ → ℕ) (allowed : ℕ) (s r : State) : Type 0 where
-  pub steps : r .steps ≡ length (removals g limit allowed (s .marks))
-  pub marks : r .marks ≡ peel g limit allowed (s .marks)
   pub state : StateOf g r

@@ -1,4 +1,4 @@
--- `peeling::State::lowest_short` meets its contract. The loop's invariant: none of the nodes passed falls short. Assumes nothing.
+-- `peeling::lowest_short` meets its contract. The loop's invariant: none of the nodes passed falls short. Assumes nothing.
 use mathlib.Core.Path.{_≡_, sym, _∙_, subst}
 use mathlib.Core.List.{List}
 use Prim.Native.Nat.{ℕ, _-_, _≤_, _<_}
@@ -9,21 +9,21 @@ use borrow.Author.Count.{below-more}
 use Rattle.model.specs.Graph.{Graph, nodes, short}
 use Rattle.model.proofs.Count.{lowest-only}
 use Rattle.limits.specs.Limits.{limit-of}
-use Rattle.peeling.specs.declared.State.{State}
-use Rattle.peeling.specs.Steps.{StateOf}
-use Rattle.peeling.proofs.Steps.{state-short}
-use Rattle.peeling.proofs.State.lowest_short.Statement.{statement}
-use Rattle.peeling.proofs.State.lowest_short.Tie as tie
+use Rattle.states.specs.declared.State.{State}
+use Rattle.states.specs.Steps.{StateOf}
+use Rattle.states.proofs.Steps.{state-short}
+use Rattle.peeling.proofs.lowest_short.Statement.{statement}
+use Rattle.peeling.proofs.lowest_short.Tie as tie
 
 -- none below x falls short
 abbrev Passed : List ℕ → State → ℕ → Type 0
 Passed limits s x = (g : Graph) → StateOf g s → (y : ℕ) → y < x → T (short g (limit-of limits) (s .marks) y) → ⊥
 
 abbrev Inv-loop : tie.InvT-loop
-Inv-loop limits self operators rides nodes x₀ x = (x ≤ nodes) × Passed limits self x
+Inv-loop limits state operators rides nodes x₀ x = (x ≤ nodes) × Passed limits state x
 
 abbrev μ-loop : tie.MeasureT-loop
-μ-loop limits self operators rides nodes x₀ x = nodes - x
+μ-loop limits state operators rides nodes x₀ x = nodes - x
 
 -- what the test of node x says
 tested : (c : tie.After-falls-short Inv-loop μ-loop) (g : Graph) → (let l = c .before .before .before .before .before in let a = l .before .before .args in StateOf g (a .t1) → short g (limit-of (a .limits .now)) (a .t1 .marks) (l .loop .x) ≡ c .falls-short .result)

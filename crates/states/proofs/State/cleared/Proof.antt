@@ -1,12 +1,12 @@
--- `peeling::State::cleared` meets its contract. Assumes nothing.
+-- `states::State::cleared` meets its contract. Assumes nothing.
 use borrow.Author.Needs.{needs}
 use mathlib.Core.Path.{_≡_, refl, ap, _∙_}
 use Prim.Native.Nat.{ℕ, _+_, _-_, _≤_}
 use lib.ListN.{length, getD}
 use Rattle.model.proofs.Store.{part-length, part-at, put-before, put-at, put-after}
 use native.Mathlib.Omega.{arith}
-use Rattle.peeling.proofs.State.cleared.Statement.{statement}
-use Rattle.peeling.proofs.State.cleared.Tie as tie
+use Rattle.states.proofs.State.cleared.Statement.{statement}
+use Rattle.states.proofs.State.cleared.Tie as tie
 
 -- the degree array has 260 entries
 long : (c : tie.Start) → length (c .args .self .degrees) ≡ 260

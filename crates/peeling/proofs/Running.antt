@@ -7,8 +7,9 @@ use lib.ListN.{length}
 use Rattle.model.specs.Count.{lowest}
 use Rattle.model.specs.Graph.{Graph, nodes, short, settled, removals, peel}
 use Rattle.model.proofs.Peel.{peel-spent, peel-settled, peel-step}
-use Rattle.peeling.specs.declared.State.{State}
-use Rattle.peeling.specs.Steps.{StateOf, Stepped, Ran}
+use Rattle.states.specs.declared.State.{State}
+use Rattle.states.specs.Steps.{StateOf, Stepped}
+use Rattle.peeling.specs.Run.{Ran}
 
 module _ (g : Graph) (limit : ℕ → ℕ) (allowed : ℕ) (s₀ : State) where
   -- on the way from s₀: the peel from s₀ is the steps taken and the peel from s, with the steps that are left

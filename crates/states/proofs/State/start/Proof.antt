@@ -1,13 +1,13 @@
--- `peeling::State::start` meets its contract. Assumes nothing.
+-- `states::State::start` meets its contract. Assumes nothing.
 use borrow.Author.Needs.{needs}
 use mathlib.Core.Path.{_≡_, refl, ap, _∙_}
 use Prim.Native.Nat.{ℕ, _+_}
 use native.Mathlib.Omega.{arith}
 use Rattle.model.specs.Graph.{nodes}
-use Rattle.peeling.specs.Steps.{first-marks}
+use Rattle.states.specs.Steps.{first-marks}
 use Rattle.degrees.proofs.Rows.{ready-kept}
-use Rattle.peeling.proofs.State.start.Statement.{statement}
-use Rattle.peeling.proofs.State.start.Tie as tie
+use Rattle.states.proofs.State.start.Statement.{statement}
+use Rattle.states.proofs.State.start.Tie as tie
 
 cast-operators : tie.Need-cast-operators
 cast-operators c = search needs

@@ -1,9 +1,9 @@
--- `peeling::State::step` meets its contract. Assumes nothing.
+-- `states::State::step` meets its contract. Assumes nothing.
 use borrow.Author.Needs.{needs}
 use native.Mathlib.Omega.{arith}
-use Rattle.peeling.proofs.Steps.{operator-clears, operator-stepped, ride-clears, ride-stepped}
-use Rattle.peeling.proofs.State.step.Statement.{statement}
-use Rattle.peeling.proofs.State.step.Tie as tie
+use Rattle.states.proofs.Steps.{operator-clears, operator-stepped, ride-clears, ride-stepped}
+use Rattle.states.proofs.State.step.Statement.{statement}
+use Rattle.states.proofs.State.step.Tie as tie
 
 cast-operators : tie.Need-cast-operators
 cast-operators c = search needs

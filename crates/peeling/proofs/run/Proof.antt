@@ -1,4 +1,4 @@
--- `peeling::State::run` meets its contract. The loop's invariant: the steps taken and the peel from here on make up the peel. Assumes nothing.
+-- `peeling::run` meets its contract. The loop's invariant: the steps taken and the peel from here on make up the peel. Assumes nothing.
 use borrow.Author.Needs.{needs}
 use mathlib.Core.Path.{sym}
 use Prim.Native.Nat.{_-_}
@@ -7,10 +7,10 @@ use Rattle.model.specs.Graph.{Graph}
 use Rattle.model.proofs.Peel.{settled-lowest, lowest-marked, unsettled-lowest-lt}
 use Rattle.limits.specs.Limits.{limit-of}
 use Rattle.tables.specs.Table.{Tables}
-use Rattle.peeling.specs.Steps.{StateOf}
-use Rattle.peeling.proofs.Run.{Running, running-start, running-step, running-settled, running-spent}
-use Rattle.peeling.proofs.State.run.Statement.{statement}
-use Rattle.peeling.proofs.State.run.Tie as tie
+use Rattle.states.specs.Steps.{StateOf}
+use Rattle.peeling.proofs.Running.{Running, running-start, running-step, running-settled, running-spent}
+use Rattle.peeling.proofs.run.Statement.{statement}
+use Rattle.peeling.proofs.run.Tie as tie
 
 abbrev Inv-loop : tie.InvT-loop
 Inv-loop rows columns limits allowed operators rides nodes state₀ state =
