@@ -16,7 +16,7 @@ use Rattle.model.proofs.Count.{some-holds}
 use Rattle.model.proofs.Chain.{first-none, enough}
 use Rattle.pairs.specs.Accepted.{AcceptedPairs}
 use Rattle.peels.specs.Peel.{Gives}
-use Rattle.refusals.proofs.Chain.{short-parts, peel-long}
+use Rattle.peel_refusals.proofs.Chain.{short-parts, peel-long}
 use Rattle.model.specs.Outcome.{peel-left}
 
 module _ (h : Head) (operators rides marks : List ℕ) (α β : ℕ) where

@@ -1,10 +1,10 @@
--- `refusals::short_peel` meets its contract: 3 of a peel, part by part. Assumes nothing.
+-- `peel_refusals::short_peel` meets its contract: 3 of a peel, part by part. Assumes nothing.
 use borrow.Author.Needs.{needs}
 use native.Mathlib.Omega.{arith}
 use Rattle.pairs.proofs.Place.{product-fits}
-use Rattle.refusals.proofs.Chain.{peel-operators, peel-rides, peel-marks}
-use Rattle.refusals.proofs.short_peel.Statement.{statement}
-use Rattle.refusals.proofs.short_peel.Tie as tie
+use Rattle.peel_refusals.proofs.Chain.{peel-operators, peel-rides, peel-marks}
+use Rattle.peel_refusals.proofs.short_peel.Statement.{statement}
+use Rattle.peel_refusals.proofs.short_peel.Tie as tie
 
 cast-n : tie.Need-cast-n
 cast-n c = search needs

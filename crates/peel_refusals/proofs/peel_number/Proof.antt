@@ -1,13 +1,14 @@
--- `refusals::peel_number` meets its contract: 1 to 5 first, then 11 and 12. Assumes nothing.
+-- `peel_refusals::peel_number` meets its contract: 1 to 5 first, then 11 and 12. Assumes nothing.
 use borrow.Author.Needs.{needs}
 use mathlib.Core.Path.{sym, ap, _∙_, subst}
 use mathlib.Core.Bool.{Bool}
 use native.Mathlib.Omega.{arith}
 use lib.Dec.{T}
 use Rattle.model.specs.Refusal.{first-number, table-cases}
-use Rattle.refusals.proofs.Chain.{alpha-zero, beta-zero, short-parts, table-long, peel-long, peel-table, peel-11, peel-12, peel-0}
-use Rattle.refusals.proofs.peel_number.Statement.{statement}
-use Rattle.refusals.proofs.peel_number.Tie as tie
+use Rattle.refusals.proofs.Chain.{table-long}
+use Rattle.peel_refusals.proofs.Chain.{alpha-zero, beta-zero, short-parts, peel-long, peel-table, peel-11, peel-12, peel-0}
+use Rattle.peel_refusals.proofs.peel_number.Statement.{statement}
+use Rattle.peel_refusals.proofs.peel_number.Tie as tie
 
 short-peel-requires : tie.Need-short-peel-requires
 short-peel-requires c κs = search needs

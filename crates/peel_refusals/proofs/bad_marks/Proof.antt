@@ -1,12 +1,12 @@
--- `refusals::bad_marks` meets its contract. The loop's invariant: the first i marks are 0 or 1. Assumes nothing.
+-- `peel_refusals::bad_marks` meets its contract. The loop's invariant: the first i marks are 0 or 1. Assumes nothing.
 use borrow.Author.Needs.{needs}
 use Prim.Native.Nat.{ℕ, _≤_, _<_, _-_}
 use native.Mathlib.Omega.{arith}
 use lib.ListN.{getD}
 use borrow.Author.Count.{below-more}
-use Rattle.refusals.proofs.Chain.{bad-mark, good-marks}
-use Rattle.refusals.proofs.bad_marks.Statement.{statement}
-use Rattle.refusals.proofs.bad_marks.Tie as tie
+use Rattle.peel_refusals.proofs.Chain.{bad-mark, good-marks}
+use Rattle.peel_refusals.proofs.bad_marks.Statement.{statement}
+use Rattle.peel_refusals.proofs.bad_marks.Tie as tie
 
 abbrev Inv-loop : tie.InvT-loop
 Inv-loop marks w i₀ i =
