@@ -7,7 +7,7 @@ use native.Mathlib.Omega.{arith}
 use lib.ListN.{length, take, replicate, length-map}
 use Rattle.model.specs.declared.Head.{Head}
 use Rattle.model.specs.Graph.{Graph, index-of}
-use Rattle.model.specs.Layout.{Operators, Rides, Stamps, parts, Board, lent, pair-places, over, graph}
+use Rattle.model.specs.Layout.{Operators, Rides, parts, Board, lent, pair-places, over, graph}
 use Rattle.model.specs.Contents.{Contents, pair-numbers, padded, words}
 use Rattle.model.specs.Refusal.{build-refusal}
 use Rattle.model.specs.Calls.{start-contents, built, board-build}

@@ -2,7 +2,7 @@
 use mathlib.Core.Path.{_≡_, refl, sym, ap, ap₂, _∙_, subst, subst₃}
 use mathlib.Core.Logic.{_≢_}
 use mathlib.Core.Bool.{Bool, true, false}
-use mathlib.Core.List.{List, []}
+use mathlib.Core.List.{List}
 use Prim.Native.Nat.{ℕ, zero, suc, _+_, _-_, _≤_, _<_}
 use native.Mathlib.Omega.{arith}
 use native.Mathlib.Nat.{zero-add}
@@ -16,11 +16,10 @@ use Rattle.model.specs.Count.{some}
 use Rattle.model.specs.Graph.{Graph, index-of}
 use Rattle.model.specs.Layout.{Index, Board, lent, index-places, over, onto, graph}
 use Rattle.model.specs.Contents.{Contents, slot, entry, put, board-of}
-use Rattle.model.specs.Refusal.{refused-7, refused-8, refused-9, first-number, message-cases, message-refusal, list-refusal}
+use Rattle.model.specs.Refusal.{message-refusal, list-refusal}
 use Rattle.model.specs.Message.{MessageOutcome, board-after, board-message, ListOutcome}
 use Rattle.model.proofs.Count.{test-true, test-false, some-holds, some-witness, some-ext}
-use Rattle.model.proofs.Chain.{first-none}
-use Rattle.model.proofs.Refusal.{Accepted, tests-valid, message-accepted, list-none}
+use Rattle.model.proofs.Refusal.{Accepted, message-accepted, list-none}
 use Rattle.model.proofs.Taken.{message-taken, message-refused}
 use Rattle.pairs.specs.Accepted.{AcceptedPairs}
 use Rattle.entries.specs.Enter.{Room, with-pairs, EnteredValid}

@@ -1,26 +1,24 @@
 -- A message delivered: refused, or entered with the index filled anew. Assumes nothing.
-use mathlib.Core.Path.{_≡_, refl, sym, ap, _∙_, subst₃}
+use mathlib.Core.Path.{_≡_, refl, sym, ap, _∙_}
 use mathlib.Core.Logic.{_≢_}
 use mathlib.Core.Bool.{not}
 use mathlib.Core.List.{List, []}
 use Prim.Native.Nat.{ℕ, zero, suc, _≤_}
 use native.Mathlib.Omega.{arith}
 use lib.Dec.{eqb}
-use lib.ListN.{length, getD, drop, length-append, List·getD-append}
+use lib.ListN.{length, getD, drop, List·getD-append}
 use Rattle.model.specs.declared.Head.{Head}
 use Rattle.model.specs.declared.Message.{Message}
 use Rattle.model.specs.Graph.{index-of}
-use Rattle.model.specs.Layout.{Part, Operators, Rides, Stamps, Index, Parts, parts, Board, lent, index-places, over, onto, listed, graph, differing, board-graph}
-use Rattle.model.specs.Contents.{Slot, Pair, Contents, slot, entry, put, given, contents, words, board-of}
+use Rattle.model.specs.Layout.{Part, Index, parts, Board, lent, index-places, over, onto, graph, differing}
+use Rattle.model.specs.Contents.{Contents, slot, entry, put, contents, words, board-of}
 use Rattle.model.specs.Refusal.{message-refusal}
 use Rattle.model.specs.Message.{MessageOutcome, board-after, board-message}
 use Rattle.model.proofs.Count.{count-ext}
-use Rattle.model.proofs.Pairs.{pairs-fit, pairs-accepted}
 use Rattle.model.proofs.Parts.{by-part}
 use Rattle.model.proofs.Refusal.{Accepted, taken-none}
-use Rattle.model.proofs.Contents.{length-words, extend, pairs-of-words, index-words}
+use Rattle.model.proofs.Contents.{length-words}
 use Rattle.model.proofs.Taken.{message-taken, message-refused}
-use Rattle.pairs.specs.Accepted.{AcceptedPairs}
 use Rattle.entries.specs.Enter.{Enters, next, with-pairs, Entered}
 use Rattle.entries.proofs.Next.{room-of, says-same, next-index}
 use Rattle.messages.specs.Deliver.{outcome-of}

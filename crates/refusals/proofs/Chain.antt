@@ -6,14 +6,13 @@ use mathlib.Core.List.{List, [], _∷_, _++_}
 use Prim.Native.Nat.{ℕ, _≤_, _<_}
 use native.Mathlib.Omega.{arith}
 use lib.Dec.{T, ltb, eqb, lt→ltb, eqb→eq, T-not}
-use borrow.Author.Tests.{lt-ltb, le-ltb, eq-eqb}
-use lib.ListN.{length, getD}
+use borrow.Author.Tests.{eq-eqb}
+use lib.ListN.{length}
 use Rattle.model.specs.declared.Head.{Head}
-use Rattle.model.specs.Count.{some}
 use Rattle.model.specs.Layout.{Part, Operators, Rides, Board, pair-places, mark-places, index-places, places}
-use Rattle.model.specs.Refusal.{refused-1, refused-2, refused-3, refused-4, refused-5, refused-9, refused-11, refused-12, board-short, first-number, table-cases, build-refusal, query-refusal, peel-refusal}
-use Rattle.model.proofs.Count.{test-true, test-false, some-holds, some-witness, or-left, or-right, or-cases}
-use Rattle.model.proofs.Chain.{first-nil, first-here, first-skip, first-none, enough, not-less, Positive, first-front, first-behind}
+use Rattle.model.specs.Refusal.{refused-1, refused-2, refused-3, refused-4, refused-5, refused-9, board-short, first-number, table-cases, build-refusal, query-refusal}
+use Rattle.model.proofs.Count.{test-true, test-false}
+use Rattle.model.proofs.Chain.{first-nil, first-here, first-skip, first-none, not-less, Positive, first-front, first-behind}
 use Rattle.model.proofs.Parts.{short-part, long-board}
 
 -- ---- 3

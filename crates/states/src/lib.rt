@@ -1,5 +1,4 @@
 // The state of a peel travels by value, and each step hands on the next one. A step costs one row of a table.
-ghost use mathlib.Core.Path.{_≡_};
 ghost use Prim.Native.Nat.{_+_, _<_};
 ghost use lib.Dec.{T};
 ghost use Rattle.model.specs.Graph.{Graph, marked};
