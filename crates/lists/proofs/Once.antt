@@ -1,39 +1,27 @@
 -- The turns of a message list: laws of one turn, and that filling the index once, after the last, gives what the messages give one after another. Assumes nothing.
 use mathlib.Core.Path.{_≡_, refl, sym, ap, ap₂, _∙_, subst, subst₃}
 use mathlib.Core.Logic.{_≢_}
-use mathlib.Core.Bool.{Bool, true, false}
 use mathlib.Core.List.{List}
-use Prim.Native.Nat.{ℕ, zero, suc, _+_, _-_, _≤_, _<_}
+use Prim.Native.Nat.{ℕ, zero, suc, _+_, _-_, _≤_}
 use native.Mathlib.Omega.{arith}
-use native.Mathlib.Nat.{zero-add}
 use lib.Dec.{T, eqb, eqb→eq}
 use borrow.Author.Tests.{eq-eqb, ne-eqb}
-use lib.ListN.{length, getD, set, take, drop, length-take, length-drop}
-use lib.Seq.{getD-take, getD-drop}
+use lib.ListN.{length, set}
 use Rattle.model.specs.declared.Head.{Head}
 use Rattle.model.specs.declared.Message.{Message}
-use Rattle.model.specs.Count.{some}
-use Rattle.model.specs.Graph.{Graph, index-of}
-use Rattle.model.specs.Layout.{Index, Board, lent, index-places, over, onto, graph}
+use Rattle.model.specs.Layout.{Index, Board, lent, index-places, onto, graph}
 use Rattle.model.specs.Contents.{Contents, slot, entry, put, board-of}
 use Rattle.model.specs.Refusal.{message-refusal, list-refusal}
 use Rattle.model.specs.Message.{MessageOutcome, board-after, board-message, ListOutcome}
-use Rattle.model.proofs.Count.{test-true, test-false, some-holds, some-witness, some-ext}
+use Rattle.model.proofs.Count.{by-test}
 use Rattle.model.proofs.Refusal.{Accepted, message-accepted, list-none}
 use Rattle.model.proofs.Taken.{message-taken, message-refused}
 use Rattle.pairs.specs.Accepted.{AcceptedPairs}
 use Rattle.entries.specs.Enter.{Room, with-pairs, EnteredValid}
-use Rattle.lists.specs.Once.{with-index, entered, filled-index, finished, turned, turns-of, left-by}
+use Rattle.lists.specs.Once.{with-index, entered, finished, turned, turns-of, left-by}
 use Rattle.entries.proofs.Next.{room-of, says-same, next-pairs}
-
--- ---- one of the numbers is 0, or none
-
-module _ (numbers : List ℕ) (n : ℕ) where
-  pub some-taken : (i : ℕ) → i < n → getD numbers i 0 ≡ 0 → true ≡ some n (λ k. eqb (getD numbers k 0) 0)
-  some-taken i l e = sym (test-true (some n (λ k. eqb (getD numbers k 0) 0)) (some-holds (λ k. eqb (getD numbers k 0) 0) n i l (subst T (sym (eq-eqb (getD numbers i 0) 0 e)) tt)))
-
-  pub none-taken : ((i : ℕ) → i < n → getD numbers i 0 ≢ 0) → false ≡ some n (λ k. eqb (getD numbers k 0) 0)
-  none-taken f = sym (test-false (some n (λ k. eqb (getD numbers k 0) 0)) (λ t. let w = some-witness (λ k. eqb (getD numbers k 0) 0) n t in f (w .0) (w .1) (eqb→eq (getD numbers (w .0) 0) 0 (w .2))))
+use Rattle.endings.specs.Ending.{filled-index, index-turned}
+use Rattle.endings.proofs.Ending.{index-last, index-on}
 
 -- ---- a list's number
 
@@ -44,27 +32,6 @@ all-turns (suc k) messages e = absurd (let z : ⊥ = omega (arith, e) in z)
 pub no-turns : (code messages : ℕ) → (code ≡ 0 → ⊥) → record { code = code; turns = 0 } ≡ turns-of code messages
 no-turns zero messages n = absurd (n refl)
 no-turns (suc k) messages n = refl
-
--- ---- the index, filled or not
-
-module _ (n : ℕ) (g : Graph) (index answers : List ℕ) where
-  pub filled-yes : some n (λ i. eqb (getD answers i 0) 0) ≡ true → filled-index n g index answers ≡ over (index-of g) index
-  unfolding filled-index
-  filled-yes e = rw (e, filled-index)
-
-  pub filled-no : some n (λ i. eqb (getD answers i 0) 0) ≡ false → filled-index n g index answers ≡ index
-  unfolding filled-index
-  filled-no e = rw (e, filled-index)
-
-  -- the first n answers, lent as a part
-  pub filled-part : n ≤ length answers → filled-index (length (take (n - 0) (drop 0 answers))) g index (take (n - 0) (drop 0 answers)) ≡ filled-index n g index answers
-  unfolding filled-index
-  filled-part l =
-      let part : List ℕ = take (n - 0) (drop 0 answers) in
-      let size : length part ≡ n = simp (length-take, length-drop) (omega arith) in
-      ap (λ (t : Bool). elim t [ true ↦ over (index-of g) index | false ↦ index ])
-      (ap (λ (k : ℕ). some k (λ i. eqb (getD part i 0) 0)) size ∙
-      some-ext (λ i. eqb (getD part i 0) 0) (λ i. eqb (getD answers i 0) 0) n (λ i k. ap (λ (x : ℕ). eqb x 0) (getD-take (n - 0) (drop 0 answers) i 0 (omega arith) ∙ getD-drop 0 answers i 0 ∙ ap (λ (j : ℕ). getD answers j 0) (zero-add i))))
 
 -- ---- one turn
 
@@ -142,13 +109,21 @@ module _ (h : Head) (m : Message) (operators rides stamps index : List ℕ) (n :
       same-numbers : numbers code ≡ numbers (board-message board m .answer .code)
       same-numbers = ap numbers (number ∙ sym (message-code board m))
 
-      pub turn-on : at + 1 ≢ n → left-by (with-pairs h count) operators′ rides′ stamps′ index (numbers code) ≡ turned n board m at answers
+      turn-on : at + 1 ≢ n → left-by (with-pairs h count) operators′ rides′ stamps′ index (numbers code) ≡ turned n board m at answers
       unfolding turned
       turn-on ne = ap₂ outcome entered-is same-numbers ∙ rw (ne-eqb (at + 1) n ne, turned)
 
-      pub turn-last : at + 1 ≡ n → (index′ : List ℕ) → index′ ≡ filled-index n (graph (with-pairs h count) operators′ rides′) index (numbers code) → left-by (with-pairs h count) operators′ rides′ stamps′ index′ (numbers code) ≡ turned n board m at answers
+      turn-last : at + 1 ≡ n → (index′ : List ℕ) → index′ ≡ filled-index n (graph (with-pairs h count) operators′ rides′) index (numbers code) → left-by (with-pairs h count) operators′ rides′ stamps′ index′ (numbers code) ≡ turned n board m at answers
       unfolding turned
       turn-last e index′ i =
           ap (λ (x : List ℕ). outcome (next-board x) (numbers code)) i ∙
           ap₂ (λ (b : Board) (l : List ℕ). outcome (finished n b l) l) entered-is same-numbers ∙
           rw (eq-eqb (at + 1) n e, turned)
+
+      pub turn-done : (index′ : List ℕ) → index′ ≡ index-turned at n (graph (with-pairs h count) operators′ rides′) index (numbers code) → left-by (with-pairs h count) operators′ rides′ stamps′ index′ (numbers code) ≡ turned n board m at answers
+      turn-done index′ i =
+          by-test (eqb (at + 1) n)
+          (λ t. let e = eqb→eq (at + 1) n t in turn-last e index′ (i ∙ index-last at n _ _ _ e))
+          (λ f.
+          let ne : at + 1 ≢ n = λ e. f (subst T (sym (eq-eqb (at + 1) n e)) tt) in
+          ap (λ (x : List ℕ). outcome (next-board x) (numbers code)) (i ∙ index-on at n _ _ _ ne) ∙ turn-on ne)

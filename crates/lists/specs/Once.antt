@@ -4,14 +4,13 @@ use mathlib.Core.Bool.{true, false}
 use mathlib.Core.List.{List, [], _∷_}
 use Prim.Native.Nat.{ℕ, zero, suc, _+_}
 use lib.Dec.{eqb}
-use lib.ListN.{getD, set}
+use lib.ListN.{set}
 use Rattle.model.specs.declared.Head.{Head}
 use Rattle.model.specs.declared.Message.{Message}
-use Rattle.model.specs.Count.{some}
-use Rattle.model.specs.Graph.{Graph, index-of}
-use Rattle.model.specs.Layout.{Operators, Rides, Stamps, Index, Board, lent, over, board-graph}
+use Rattle.model.specs.Layout.{Operators, Rides, Stamps, Index, Board, lent, board-graph}
 use Rattle.model.specs.Refusal.{message-refusal}
 use Rattle.model.specs.Message.{board-after, board-message, ListOutcome}
+use Rattle.endings.specs.Ending.{filled-index}
 use Rattle.lists.specs.declared.Turns.{Turns}
 
 -- the board with other words in its index
@@ -21,11 +20,6 @@ with-index b index = lent (b .head) (b .part Operators) (b .part Rides) (b .part
 -- the board once a message is entered, its index as it was
 unfoldable pub entered : Board → Message → Board
 entered b m = elim (message-refusal b m) [ zero ↦ with-index (board-after b m) (b .part Index) | suc k ↦ b ]
-
--- an index filled for a graph, if one of the first n answers is 0
-unfoldable pub filled-index : ℕ → Graph → List ℕ → List ℕ → List ℕ
-filled-index n g index answers =
-    elim (some n (λ i. eqb (getD answers i 0) 0)) [ true ↦ over (index-of g) index | false ↦ index ]
 
 -- a board with its index filled, if one of the first n answers is 0
 abbrev pub finished : ℕ → Board → List ℕ → Board

@@ -1,14 +1,10 @@
 // The turns of a message list: each message is entered, and the index is filled once.
 ghost use mathlib.Core.Path.{_≡_};
-ghost use Prim.Native.Nat.{_<_, _≤_};
-ghost use lib.Dec.{eqb};
-ghost use lib.ListN.{length, getD};
-ghost use Rattle.model.specs.Count.{some};
-ghost use Rattle.model.specs.Layout.{lent, index-places, graph};
+ghost use Prim.Native.Nat.{_<_};
+ghost use Rattle.model.specs.Layout.{lent};
 ghost use Rattle.model.specs.Refusal.{list-refusal};
-ghost use Rattle.pairs.specs.Accepted.{AcceptedPairs};
 ghost use Rattle.entries.specs.Enter.{with-pairs};
-ghost use Rattle.lists.specs.Once.{turns-of, filled-index, left-by, turned};
+ghost use Rattle.lists.specs.Once.{turns-of, left-by, turned};
 use model::Head;
 use model::Message;
 
@@ -53,35 +49,6 @@ pub fn list_turns(
     Turns { code, turns: 0 }
 }
 
-// Whether one of these numbers is 0.
-fn any_taken(numbers: &[u16]) -> bool
-    ensures { λ r. ⌜ r ≡ some (length (now (numbers .entry))) (λ i. eqb (getD (now (numbers .entry)) i 0) 0) ⌝ }
-{
-    let n = numbers.len();
-    let mut i = 0;
-    while i < n {
-        if numbers[i] == 0 {
-            return true;
-        }
-        i += 1;
-    }
-    false
-}
-
-// Fills the index, if one of these numbers is 0.
-fn finish(head: Head, operators: &[u16], rides: &[u16], index: &mut [u16], numbers: &[u16])
-    requires { ⌜ AcceptedPairs head (now operators) (now rides) × (index-places head ≤ length (now index)) ⌝ }
-    ensures { λ _. ⌜
-        now (index .exit)
-        ≡ filled-index (length (now (numbers .entry))) (graph head (now (operators .entry)) (now (rides .entry))) (now (index .entry))
-        (now (numbers .entry))
-        ⌝ }
-{
-    if any_taken(numbers) {
-        levels::fill_index(head, operators, rides, index);
-    }
-}
-
 // One of n messages of a list: it is entered and its number stored at its place, and after the last one the index is filled. The number of pairs.
 pub fn turn(
     head: Head,
@@ -103,14 +70,11 @@ pub fn turn(
 {
     let entered = entries::enter_valid(head, message, operators, rides, stamps);
     answers[at] = entered.code;
-    let pairs = entered.pairs;
-    if at + 1 == n {
-        let next = Head {
-            operators: head.operators,
-            rides: head.rides,
-            pairs,
-        };
-        finish(next, operators, rides, index, &answers[0..n]);
-    }
-    pairs
+    let next = Head {
+        operators: head.operators,
+        rides: head.rides,
+        pairs: entered.pairs,
+    };
+    endings::finish(next, at, n, operators, rides, index, answers);
+    entered.pairs
 }

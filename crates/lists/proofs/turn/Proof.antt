@@ -1,9 +1,8 @@
 -- `lists::turn` meets its contract: the message is entered and its number stored, and after the last message the index is filled. Assumes nothing.
 use borrow.Author.Needs.{needs}
-use mathlib.Core.Path.{_∙_}
 use native.Mathlib.Omega.{arith}
 use lib.ListN.{length-set}
-use Rattle.lists.proofs.Once.{filled-part, turn-room, turn-answers, turn-index, turn-pairs, turn-on, turn-last}
+use Rattle.lists.proofs.Once.{turn-room, turn-answers, turn-index, turn-pairs, turn-done}
 use Rattle.lists.proofs.turn.Statement.{statement}
 use Rattle.lists.proofs.turn.Tie as tie
 
@@ -22,24 +21,14 @@ slice-write-answers c = let s = c .before .before .before .before .before .befor
     let a = s .args in
     omega (arith, turn-answers (a .head) (a .message) (a .operators .now) (a .rides .now) (a .stamps .now) (a .index .now) (a .n) (a .answers .now) (s .pre .0), s .pre .1)
 
-add-if1 : tie.Need-add-if1
-add-if1 c = search needs
-
-sub-finish : tie.Need-sub-finish
-sub-finish c = search needs
-
-part-finish-start : tie.Need-part-finish-start
-part-finish-start c = search needs
-
-part-finish-end : tie.Need-part-finish-end
-part-finish-end c = let s = c .before .before .before .before .before .before .before .before .before .before .before .before .before .before .before .before .before .before .before .before in
-    let a = s .args in
-    simp length-set (omega (arith, turn-answers (a .head) (a .message) (a .operators .now) (a .rides .now) (a .stamps .now) (a .index .now) (a .n) (a .answers .now) (s .pre .0)))
-
 finish-requires : tie.Need-finish-requires
-finish-requires c κs = let s = c .before .before .before .before .before .before .before .before .before .before .before .before .before .before .before .before .before .before .before .before .before in
-    let a = s .args in
-    (turn-pairs (a .head) (a .message) (a .operators .now) (a .rides .now) (a .stamps .now) (a .index .now) (a .n) (a .answers .now) (s .pre .0) _ _ _ _ _ (c .before .before .before .before .before .before .before .before .before .before .before .before .enter-valid .ensures), turn-index (a .head) (a .message) (a .operators .now) (a .rides .now) (a .stamps .now) (a .index .now) (a .n) (a .answers .now) (s .pre .0))
+finish-requires c κs = let s = c .before .before .before .before .before .before .before .before .before .before .before .before .before .before .before .before .before .before .before in
+    let a = s .args in (
+      turn-pairs (a .head) (a .message) (a .operators .now) (a .rides .now) (a .stamps .now) (a .index .now) (a .n) (a .answers .now) (s .pre .0) _ _ _ _ _ (c .before .before .before .before .before .before .before .before .before .before .enter-valid .ensures),
+      turn-index (a .head) (a .message) (a .operators .now) (a .rides .now) (a .stamps .now) (a .index .now) (a .n) (a .answers .now) (s .pre .0),
+      s .pre .1,
+      simp length-set (turn-answers (a .head) (a .message) (a .operators .now) (a .rides .now) (a .stamps .now) (a .index .now) (a .n) (a .answers .now) (s .pre .0)),
+    )
 
 same-length : tie.Need-same-length
 same-length c = search needs
@@ -57,26 +46,9 @@ same-length-5 : tie.Need-same-length-5
 same-length-5 c = search needs
 
 returns : tie.Need-returns
-returns c = let s = c .before .before .before .before .before .before .before .before .before .before .before .before .before .before .before .before .before .before .before .before .before .before .before .before in
+returns c = let s = c .before .before .before .before .before .before .before .before .before .before .before .before .before .before .before .before .before .before .before .before .before .before in
     let a = s .args in
-    turn-last (a .head) (a .message) (a .operators .now) (a .rides .now) (a .stamps .now) (a .index .now) (a .n) (a .answers .now) (s .pre .0) _ _ _ _ _ (c .before .before .before .before .before .before .before .before .before .before .before .before .before .before .before .enter-valid .ensures) (a .at) (omega (arith, c .before .before .before .before .before .before .before .before .if1 .taken)) _ (c .before .before .finish .ensures ∙ filled-part (a .n) _ _ _ (simp length-set (omega (arith, turn-answers (a .head) (a .message) (a .operators .now) (a .rides .now) (a .stamps .now) (a .index .now) (a .n) (a .answers .now) (s .pre .0)))))
-
-same-length-6 : tie.Need-same-length-6
-same-length-6 c = search needs
-
-same-length-7 : tie.Need-same-length-7
-same-length-7 c = search needs
-
-same-length-8 : tie.Need-same-length-8
-same-length-8 c = search needs
-
-same-length-9 : tie.Need-same-length-9
-same-length-9 c = search needs
-
-returns-2 : tie.Need-returns-2
-returns-2 c = let s = c .before .before .before .before .before .before .before .before .before .before .before .before .before .before .before .before in
-    let a = s .args in
-    turn-on (a .head) (a .message) (a .operators .now) (a .rides .now) (a .stamps .now) (a .index .now) (a .n) (a .answers .now) (s .pre .0) _ _ _ _ _ (c .before .before .before .before .before .before .before .enter-valid .ensures) (a .at) (omega (arith, c .if1 .left))
+    turn-done (a .head) (a .message) (a .operators .now) (a .rides .now) (a .stamps .now) (a .index .now) (a .n) (a .answers .now) (s .pre .0) _ _ _ _ _ (c .before .before .before .before .before .before .before .before .before .before .before .before .before .enter-valid .ensures) (a .at) _ (c .before .before .finish .ensures)
 
 pub turn-spec : {M : Type 1} → statement M
 turn-spec =
@@ -85,19 +57,10 @@ turn-spec =
     enter-valid-requires
     mul-answers
     slice-write-answers
-    add-if1
-    sub-finish
-    part-finish-start
-    part-finish-end
     finish-requires
     same-length
     same-length-2
     same-length-3
     same-length-4
     same-length-5
-    returns
-    same-length-6
-    same-length-7
-    same-length-8
-    same-length-9
-    returns-2)
+    returns)

@@ -1,13 +1,13 @@
--- `lists::any_taken` meets its contract. The loop's invariant: none of the first i numbers is 0. Assumes nothing.
+-- `endings::any_taken` meets its contract. The loop's invariant: none of the first i numbers is 0. Assumes nothing.
 use borrow.Author.Needs.{needs}
 use Prim.Native.Nat.{ℕ, _≤_, _<_, _-_}
 use mathlib.Core.Logic.{_≢_}
 use native.Mathlib.Omega.{arith}
 use borrow.Author.Count.{below-more}
 use lib.ListN.{getD}
-use Rattle.lists.proofs.Once.{some-taken, none-taken}
-use Rattle.lists.proofs.any_taken.Statement.{statement}
-use Rattle.lists.proofs.any_taken.Tie as tie
+use Rattle.endings.proofs.Ending.{some-taken, none-taken}
+use Rattle.endings.proofs.any_taken.Statement.{statement}
+use Rattle.endings.proofs.any_taken.Tie as tie
 
 abbrev Inv-loop : tie.InvT-loop
 Inv-loop numbers n i₀ i =
