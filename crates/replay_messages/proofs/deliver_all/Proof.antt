@@ -3,8 +3,8 @@ use Prim.Native.Nat.{_-_}
 use mathlib.Core.Path.{_≡_}
 use lib.ListN.{length}
 use borrow.Author.Needs.{needs}
-use Rattle.replay.proofs.deliver_all.Statement.{statement}
-use Rattle.replay.proofs.deliver_all.Tie as tie
+use Rattle.replay_messages.proofs.deliver_all.Statement.{statement}
+use Rattle.replay_messages.proofs.deliver_all.Tie as tie
 
 abbrev Inv-loop : tie.InvT-loop
 Inv-loop frame count operators₀ rides₀ stamps₀ index₀ answers₀ pairs₀ at₀ i₀ operators rides stamps index answers pairs at i = (length operators ≡ length operators₀) × (length rides ≡ length rides₀) × (length stamps ≡ length stamps₀) × (length index ≡ length index₀) × (length answers ≡ length answers₀)

@@ -1,0 +1,89 @@
+// The memory that the replays lend: set as a frame says, and its checksum.
+use model::Head;
+
+// The head of a frame, with so many pairs by now.
+pub fn head_now(frame: &[u8], pairs: u16) -> Head {
+    Head {
+        operators: frames::word(frame, 1),
+        rides: frames::word(frame, 2),
+        pairs,
+    }
+}
+
+pub fn head(frame: &[u8]) -> Head {
+    head_now(frame, frames::word(frame, 3))
+}
+
+// The checksum of a frame's head, with so many pairs by now.
+pub fn head_checksum(frame: &[u8], pairs: u16) -> u64 {
+    let words = [frames::word(frame, 1), frames::word(frame, 2), pairs];
+    frames::checksum(0, 3, &words)
+}
+
+// How many places of each part a call lends.
+pub struct Lent {
+    pub operators: usize,
+    pub rides: usize,
+    pub stamps: usize,
+    pub index: usize,
+    pub marks: usize,
+    pub answers: usize,
+}
+
+// The checksum with all that was lent more.
+pub fn checksum(
+    head: u64,
+    lent: Lent,
+    operators: &[u16; 12300],
+    rides: &[u16; 12300],
+    stamps: &[u32; 12300],
+    index: &[u16; 16000],
+    marks: &[u16; 270],
+    answers: &[u16; 70],
+) -> u64 {
+    let o = frames::checksum(head, lent.operators, operators);
+    let r = frames::checksum(o, lent.rides, rides);
+    let s = frames::checksum_longs(r, lent.stamps, stamps);
+    let i = frames::checksum(s, lent.index, index);
+    let m = frames::checksum(i, lent.marks, marks);
+    frames::checksum(m, lent.answers, answers)
+}
+
+// Where the parts of a call begin in its frame.
+fn parts_at(frame: &[u8]) -> usize {
+    match frames::word(frame, 0) {
+        1 => 6,
+        2 => 6,
+        3 => 7,
+        4 => 9,
+        _ => frames::past(5, 5 * (frames::word(frame, 4) as usize)),
+    }
+}
+
+// Sets the memory as the parts of a frame say. A query has no pairs, a peel no index, and neither has stamps; they alone have marks.
+pub fn load(
+    frame: &[u8],
+    operators: &mut [u16; 12300],
+    rides: &mut [u16; 12300],
+    stamps: &mut [u32; 12300],
+    index: &mut [u16; 16000],
+    marks: &mut [u16; 270],
+    answers: &mut [u16; 70],
+) -> Lent {
+    let kind = frames::word(frame, 0);
+    let marked = kind == 2 || kind == 3;
+    let o = frames::load(frame, parts_at(frame), kind != 2, operators);
+    let r = frames::load(frame, o.next, kind != 2, rides);
+    let s = frames::load_longs(frame, r.next, !marked, stamps);
+    let i = frames::load(frame, s.next, kind != 3, index);
+    let m = frames::load(frame, i.next, marked, marks);
+    let a = frames::load(frame, m.next, kind == 5, answers);
+    Lent {
+        operators: o.places,
+        rides: r.places,
+        stamps: s.places,
+        index: i.places,
+        marks: m.places,
+        answers: a.places,
+    }
+}

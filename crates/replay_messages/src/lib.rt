@@ -1,0 +1,121 @@
+// The message and message list calls of a frame, sent through `messages::deliver`.
+use messages::Delivered;
+use model::Message;
+use replay_memory::Lent;
+
+fn message_at(frame: &[u8], at: usize) -> Message {
+    Message {
+        kind: frames::word(frame, at),
+        operator: frames::word(frame, frames::past(at, 1)),
+        ride: frames::word(frame, frames::past(at, 2)),
+        stamp: frames::long(frame, frames::past(at, 3)),
+    }
+}
+
+// Delivers the message at a place of the frame, to a board that has so many pairs by now.
+fn deliver_at(
+    frame: &[u8],
+    at: usize,
+    pairs: u16,
+    operators: &mut [u16],
+    rides: &mut [u16],
+    stamps: &mut [u32],
+    index: &mut [u16],
+) -> Delivered {
+    let now = replay_memory::head_now(frame, pairs);
+    messages::deliver(now, message_at(frame, at), operators, rides, stamps, index)
+}
+
+pub fn message(
+    frame: &[u8],
+    lent: Lent,
+    operators: &mut [u16],
+    rides: &mut [u16],
+    stamps: &mut [u32],
+    index: &mut [u16],
+) -> u64 {
+    let delivered = deliver_at(
+        frame,
+        4,
+        frames::word(frame, 3),
+        frames::first(operators, lent.operators),
+        frames::first(rides, lent.rides),
+        frames::first_longs(stamps, lent.stamps),
+        frames::first(index, lent.index),
+    );
+    frames::print(delivered.code);
+    frames::print(delivered.differ);
+    replay_memory::head_checksum(frame, delivered.pairs)
+}
+
+// Delivers so many messages of a list one after another, an answer for each, and answers the count of pairs after them.
+fn deliver_all(
+    frame: &[u8],
+    count: usize,
+    operators: &mut [u16],
+    rides: &mut [u16],
+    stamps: &mut [u32],
+    index: &mut [u16],
+    answers: &mut [u16],
+) -> u16 {
+    let mut pairs = frames::word(frame, 3);
+    let mut at = 5;
+    for i in 0..count {
+        let delivered = deliver_at(frame, at, pairs, operators, rides, stamps, index);
+        frames::store(answers, i, delivered.code);
+        pairs = delivered.pairs;
+        at = frames::past(at, 5);
+    }
+    pairs
+}
+
+// A message list is its messages one after another, once its own number is 0. Answers the count of pairs after it.
+fn deliver_list(
+    frame: &[u8],
+    operators: &mut [u16],
+    rides: &mut [u16],
+    stamps: &mut [u32],
+    index: &mut [u16],
+    answers: &mut [u16],
+) -> u16 {
+    let count = frames::word(frame, 4) as usize;
+    let code = message_refusals::list_number(
+        replay_memory::head(frame),
+        count,
+        operators,
+        rides,
+        stamps,
+        index,
+        answers,
+    );
+    frames::print(code);
+    deliver_all(
+        frame,
+        frames::only(code == 0, count),
+        operators,
+        rides,
+        stamps,
+        index,
+        answers,
+    )
+}
+
+pub fn list(
+    frame: &[u8],
+    lent: Lent,
+    operators: &mut [u16],
+    rides: &mut [u16],
+    stamps: &mut [u32],
+    index: &mut [u16],
+    answers: &mut [u16],
+) -> u64 {
+    let pairs = deliver_list(
+        frame,
+        frames::first(operators, lent.operators),
+        frames::first(rides, lent.rides),
+        frames::first_longs(stamps, lent.stamps),
+        frames::first(index, lent.index),
+        frames::first(answers, lent.answers),
+    );
+    replay_memory::head_checksum(frame, pairs)
+}
