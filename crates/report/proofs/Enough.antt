@@ -9,8 +9,10 @@ use lib.ListN.{length, take}
 use lib.Seq.{length-take-le, take-all, getD-take}
 use Rattle.model.specs.declared.Head.{Head}
 use Rattle.model.specs.Refusal.{first-number}
-use Rattle.report.specs.Program.{word, head, size-cases, cover-text, EnoughRead}
-use Rattle.report.proofs.Sizes.{few-pairs, text-refused}
+use Rattle.pairs.proofs.Place.{product-small}
+use Rattle.input.specs.Input.{word, head, size-cases}
+use Rattle.report.specs.Program.{cover-text, EnoughRead}
+use Rattle.report.proofs.Sizes.{text-refused}
 
 -- the number of a refusal for every such length
 refused-long : (h : Head) → (k : ℕ) × ((size : ℕ) → 48011 ≤ size → first-number (size-cases size h) ≡ suc k)
@@ -28,7 +30,7 @@ refused-long h =
                   | yes c ↦ (3, λ size l. simp (le-ltb size 6 (omega arith), le-ltb _ _ n, le-ltb _ _ m, lt-ltb _ _ c))
                   | no c ↦
                       let p : h .pairs ≤ h .operators * h .rides = omega arith in
-                      (12, λ size l. simp (le-ltb size 6 (omega arith), le-ltb _ _ n, le-ltb _ _ m, le-ltb _ _ p, ne-eqb size (10 + 4 * h .pairs) (λ e. omega (arith, few-pairs (h .operators) (h .rides) n m))))
+                      (12, λ size l. simp (le-ltb size 6 (omega arith), le-ltb _ _ n, le-ltb _ _ m, le-ltb _ _ p, ne-eqb size (10 + 4 * h .pairs) (λ e. omega (arith, product-small (h .operators) (h .rides) n m))))
                 ]
           ]
     ]

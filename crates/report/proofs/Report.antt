@@ -1,19 +1,19 @@
 -- The text from a row of levels is the text of the cover. Assumes nothing.
-use mathlib.Core.Path.{_≡_, refl, sym, ap, ap₂, _∙_}
-use mathlib.Core.Bool.{Bool, true, false}
-use mathlib.Core.List.{List, _++_}
-use Prim.Native.Nat.{ℕ, zero, suc, _+_, _≤_, _<_}
+use mathlib.Core.Path.{_≡_, sym, ap, _∙_}
+use mathlib.Core.Bool.{true, false}
+use mathlib.Core.List.{List}
+use Prim.Native.Nat.{ℕ, _≤_, _<_}
 use native.Mathlib.Nat.{zero-add}
 use native.Mathlib.Omega.{arith}
 use lib.Dec.{leb, leb→le, le→leb}
 use lib.ListN.{length, getD}
 use lib.Seq.{ext-getD, length-sets}
 use Rattle.model.specs.declared.Head.{Head}
-use Rattle.model.specs.Count.{count, values}
+use Rattle.model.specs.Count.{values}
 use Rattle.model.specs.Graph.{Graph, nodes, everybody, marked, cover, level, row}
 use Rattle.model.specs.Layout.{over, graph}
 use Rattle.model.specs.Refusal.{refused-5, refused-11, first-number}
-use Rattle.model.proofs.Count.{test-ext, count-ext, length-values, getD-values}
+use Rattle.model.proofs.Count.{test-ext, length-values, getD-values}
 use Rattle.model.proofs.Cover.{degree-operator-le}
 use Rattle.model.proofs.Level.{level-largest, level-in, level-laws}
 use Rattle.text.specs.Text.{refusal-line, report-text}

@@ -3,7 +3,6 @@ use mathlib.Core.Path.{_≡_, refl, sym}
 use mathlib.Core.Bool.{Bool, true, false, not}
 use mathlib.Core.List.{List, [], _∷_, _++_}
 use Prim.Native.Nat.{ℕ, zero, suc, _+_, _*_, _≤_}
-use native.Mathlib.Nat.{mul-le-mul-left, mul-le-mul-right}
 use native.Mathlib.Omega.{arith}
 use lib.Dec.{ltb, eqb}
 use borrow.Author.Tests.{eqb-true, not-false}
@@ -12,8 +11,10 @@ use Rattle.model.specs.declared.Head.{Head}
 use Rattle.model.specs.Refusal.{first-number}
 use Rattle.model.proofs.Count.{test-false}
 use Rattle.model.proofs.Chain.{first-none, enough}
+use Rattle.pairs.proofs.Place.{product-small}
+use Rattle.input.specs.Input.{head, size-cases}
 use Rattle.text.specs.Text.{refusal-line}
-use Rattle.report.specs.Program.{head, size-cases, cover-refusal, cover-text}
+use Rattle.report.specs.Program.{cover-refusal, cover-text}
 use Rattle.report.specs.Sizes.{Sizes, input-text}
 
 -- ---- the first number of a list of checks
@@ -37,11 +38,8 @@ lowest-miss n false cs ds f e = f e
 
 -- ---- the checks of the sizes
 
-pub few-pairs : (n m : ℕ) → n ≤ 200 → m ≤ 60 → n * m ≤ 12000
-few-pairs n m a b = omega (arith, mul-le-mul-left n b, mul-le-mul-right 60 a)
-
 pub pairs-fit : (h : Head) → Sizes h → h .pairs ≤ 12000
-pairs-fit h c = omega (arith, few-pairs (h .operators) (h .rides) (c .few-operators) (c .few-rides), c .few-pairs)
+pairs-fit h c = omega (arith, product-small (h .operators) (h .rides) (c .few-operators) (c .few-rides), c .few-pairs)
 
 pub checked : (size : ℕ) (h : Head) → first-number (size-cases size h) ≡ 0 → Sizes h × (size ≡ 10 + 4 * h .pairs)
 checked size h e =

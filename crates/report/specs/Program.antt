@@ -1,56 +1,17 @@
 -- Document 01, The program `cover`: a function from the bytes of its input to the bytes of its output.
 use mathlib.Core.Path.{_≡_}
-use mathlib.Core.Bool.{Bool, not}
+use mathlib.Core.Bool.{Bool}
 use mathlib.Core.List.{List, [], _∷_, _++_}
-use Prim.Native.Nat.{ℕ, zero, suc, _+_, _*_, _≤_}
-use lib.Dec.{ltb, eqb}
-use lib.ListN.{length, getD, take}
+use Prim.Native.Nat.{ℕ, zero, suc, _≤_}
+use lib.ListN.{length, take}
 use Rattle.model.specs.declared.Head.{Head}
-use Rattle.model.specs.Count.{values}
 use Rattle.model.specs.Graph.{marked, cover, level}
 use Rattle.model.specs.Layout.{over, graph}
-use Rattle.model.specs.Refusal.{refused-1, refused-2, refused-4, refused-5, refused-11, first-number}
+use Rattle.model.specs.Refusal.{refused-5, refused-11, first-number}
+use Rattle.input.specs.Input.{head, operators, rides, alpha, beta, size-cases}
 use Rattle.text.specs.Text.{refusal-line, report-text}
 
--- the 16-bit little-endian word at place i of the input
-abbrev pub word : List ℕ → ℕ → ℕ
-word input i = getD input (2 * i) 0 + 256 * getD input (2 * i + 1) 0
-
--- k words of the input, from a place on
-abbrev pub words : List ℕ → ℕ → ℕ → List ℕ
-words input start k = values k (λ i. word input (start + i))
-
--- the first words of the input: the head
-abbrev pub head : List ℕ → Head
-head input = record { operators = word input 0; rides = word input 1; pairs = word input 2 }
-
--- then the operator numbers, as many as pairs
-abbrev pub operators : List ℕ → ℕ → List ℕ
-operators input pairs = words input 3 pairs
-
--- then the ride numbers, as many as pairs
-abbrev pub rides : List ℕ → ℕ → List ℕ
-rides input pairs = words input (3 + pairs) pairs
-
--- then α
-abbrev pub alpha : List ℕ → ℕ → ℕ
-alpha input pairs = word input (3 + 2 * pairs)
-
--- then β
-abbrev pub beta : List ℕ → ℕ → ℕ
-beta input pairs = word input (4 + 2 * pairs)
-
--- what `cover` checks of its input's length and head: at least 6 bytes (13), 1, 2, 4, exact length 10 + 4 × pairs bytes (13)
-abbrev pub size-cases : ℕ → Head → List (ℕ × Bool)
-size-cases size h =
-    (13, ltb size 6) ∷
-    (1, refused-1 h) ∷
-    (2, refused-2 h) ∷
-    (4, refused-4 h) ∷
-    (13, not (eqb size (10 + 4 * h .pairs))) ∷
-    []
-
--- what it checks after that: 5, 11
+-- what `cover` checks after its input's length and head: 5, 11
 abbrev pub content-cases : Head → List ℕ → List ℕ → ℕ → ℕ → List (ℕ × Bool)
 content-cases h operators rides α β = (5, refused-5 h operators rides) ∷ (11, refused-11 α β) ∷ []
 

@@ -3,7 +3,8 @@ use mathlib.Core.List.{List}
 use Prim.Native.Nat.{ℕ, _*_, _≤_}
 use Rattle.model.specs.declared.Head.{Head}
 use Rattle.model.specs.Refusal.{first-number}
-use Rattle.report.specs.Program.{operators, rides, alpha, beta, content-cases, cover-lines, printed}
+use Rattle.input.specs.Input.{operators, rides, alpha, beta}
+use Rattle.report.specs.Program.{content-cases, cover-lines, printed}
 
 -- a head that no check of the sizes refuses: 1, 2 and 4 do not apply
 pub record Sizes (h : Head) : Type 0 where

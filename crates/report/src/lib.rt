@@ -1,6 +1,4 @@
 // The program `cover` as a function from the bytes of its input to the bytes of its output.
-mod input;
-
 ghost use mathlib.Core.Path.{_≡_};
 ghost use Prim.Native.Nat.{ℕ, _+_, _*_, _≤_};
 ghost use lib.ListN.{length, getD};

@@ -6,10 +6,8 @@ use native.Mathlib.Omega.{arith}
 use native.Mathlib.Numerals.{add-one}
 use native.Mathlib.Nat.{add-zero, zero-add}
 use lib.ListN.{length, getD, set, take, drop, length-append}
-use lib.Seq.{sets, sets-eq, length-sets, length-take-le, take-suc}
-use Rattle.model.specs.Count.{values}
+use lib.Seq.{sets, sets-eq, length-take-le, take-suc}
 use Rattle.model.specs.Layout.{over}
-use Rattle.model.proofs.Count.{length-values}
 use Rattle.text.specs.Write.{Wrote}
 
 -- two runs of stores, the second where the first ends
@@ -25,14 +23,6 @@ sets-suc l at s i h =
     ap (λ (k : ℕ). set (sets l at (take i s)) (at + k) (getD s i 0)) (sym (length-take-le i s (omega arith))) ∙
     sets-append l at (take i s) (getD s i 0 ∷ []) ∙
     ap (sets l at) (sym (take-suc s i 0 h) ∙ ap (λ (k : ℕ). take k s) (sym (add-one i)))
-
--- one more value stored
-pub sets-values : (l : List ℕ) (f : ℕ → ℕ) (i : ℕ) → set (sets l 0 (values i f)) i (f i) ≡ sets l 0 (values (i + 1) f)
-unfolding values
-sets-values l f i =
-    ap (λ (k : ℕ). set (sets l 0 (values i f)) k (f i)) (let e : i ≡ 0 + length (values i f) = omega (arith, length-values f i) in e) ∙
-    sets-append l 0 (values i f) (f i ∷ []) ∙
-    ap (λ (k : ℕ). sets l 0 (values k f)) (sym (add-one i))
 
 -- stores from the start on are new words over the old ones
 pub sets-over : (l new : List ℕ) → length new ≤ length l → sets l 0 new ≡ over new l

@@ -5,7 +5,7 @@ use Prim.Native.Nat.{_+_, _*_}
 use native.Mathlib.Omega.{arith}
 use lib.ListN.{length}
 use Rattle.model.specs.declared.Head.{Head}
-use Rattle.report.specs.Program.{head}
+use Rattle.input.specs.Input.{head}
 use Rattle.report.specs.Sizes.{Sizes, input-text}
 use Rattle.report.proofs.Sizes.{checked, text-refused, text-checked}
 use Rattle.text.proofs.Write.{wrote-most}

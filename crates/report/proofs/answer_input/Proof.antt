@@ -8,7 +8,7 @@ use lib.ListN.{length, take, drop}
 use lib.Seq.{take-at}
 use Rattle.model.specs.Layout.{over}
 use Rattle.model.proofs.Count.{length-values}
-use Rattle.report.specs.Program.{word, words}
+use Rattle.input.specs.Input.{word, words}
 use Rattle.report.proofs.Sizes.{pairs-fit}
 use Rattle.text.proofs.Write.{wrote-text}
 use Rattle.report.proofs.answer_input.Statement.{statement}

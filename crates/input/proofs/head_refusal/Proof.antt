@@ -1,11 +1,11 @@
--- `report::input::head_refusal` meets its contract: each return rewrites with the tests that led there. Assumes nothing.
+-- `input::head_refusal` meets its contract: each return rewrites with the tests that led there. Assumes nothing.
 use borrow.Author.Needs.{needs}
 use native.Mathlib.Omega.{arith}
 use borrow.Author.Tests.{lt-ltb, le-ltb, eq-eqb, ne-eqb}
 use Rattle.model.specs.Refusal.{first-number}
-use Rattle.report.proofs.Sizes.{few-pairs}
-use Rattle.report.proofs.input.head_refusal.Statement.{statement}
-use Rattle.report.proofs.input.head_refusal.Tie as tie
+use Rattle.pairs.proofs.Place.{product-small}
+use Rattle.input.proofs.head_refusal.Statement.{statement}
+use Rattle.input.proofs.head_refusal.Tie as tie
 
 returns : tie.Need-returns
 unfolding first-number
@@ -20,7 +20,7 @@ returns-2 c =
 mul-if3 : tie.Need-mul-if3
 mul-if3 c =
     let h = c .before .before .before .before .before .args .h in
-    omega (arith, few-pairs (h .operators) (h .rides) (omega arith) (omega arith))
+    omega (arith, product-small (h .operators) (h .rides) (omega arith) (omega arith))
 
 returns-3 : tie.Need-returns-3
 unfolding first-number

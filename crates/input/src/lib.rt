@@ -4,7 +4,7 @@ ghost use Prim.Native.Nat.{_+_, _*_, _≤_, _<_};
 ghost use lib.ListN.{length};
 ghost use Rattle.model.specs.Layout.{over};
 ghost use Rattle.model.specs.Refusal.{first-number};
-ghost use Rattle.report.specs.Program.{word, words, head, size-cases};
+ghost use Rattle.input.specs.Input.{word, words, head, size-cases};
 use model::Head;
 
 // The word at place i.

@@ -1,9 +1,9 @@
--- `report::input::word_at` meets its contract. Assumes nothing.
+-- `input::word_at` meets its contract. Assumes nothing.
 use borrow.Author.Needs.{needs}
 use Prim.Native.Nat.{_+_, _*_}
 use native.Mathlib.Omega.{arith}
-use Rattle.report.proofs.input.word_at.Statement.{statement}
-use Rattle.report.proofs.input.word_at.Tie as tie
+use Rattle.input.proofs.word_at.Statement.{statement}
+use Rattle.input.proofs.word_at.Tie as tie
 
 mul-result : tie.Need-mul-result
 mul-result c = search needs

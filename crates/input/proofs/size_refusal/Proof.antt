@@ -1,13 +1,13 @@
--- `report::input::size_refusal` meets its contract. Assumes nothing.
+-- `input::size_refusal` meets its contract. Assumes nothing.
 use borrow.Author.Needs.{needs}
 use mathlib.Core.Path.{ap, _∙_}
 use borrow.Author.Tests.{lt-ltb}
 use lib.ListN.{length}
 use Rattle.model.specs.declared.Head.{Head}
 use Rattle.model.specs.Refusal.{first-number}
-use Rattle.report.specs.Program.{size-cases}
-use Rattle.report.proofs.input.size_refusal.Statement.{statement}
-use Rattle.report.proofs.input.size_refusal.Tie as tie
+use Rattle.input.specs.Input.{size-cases}
+use Rattle.input.proofs.size_refusal.Statement.{statement}
+use Rattle.input.proofs.size_refusal.Tie as tie
 
 returns : tie.Need-returns
 unfolding first-number

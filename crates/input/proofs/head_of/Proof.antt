@@ -1,7 +1,7 @@
--- `report::input::head_of` meets its contract. Assumes nothing.
+-- `input::head_of` meets its contract. Assumes nothing.
 use borrow.Author.Needs.{needs}
-use Rattle.report.proofs.input.head_of.Statement.{statement}
-use Rattle.report.proofs.input.head_of.Tie as tie
+use Rattle.input.proofs.head_of.Statement.{statement}
+use Rattle.input.proofs.head_of.Tie as tie
 
 word-at-requires : tie.Need-word-at-requires
 word-at-requires c κs = search needs
