@@ -17,9 +17,10 @@ use Rattle.model.proofs.Count.{test-ext, length-values, getD-values}
 use Rattle.model.proofs.Cover.{degree-operator-le}
 use Rattle.model.proofs.Level.{level-largest, level-in, level-laws}
 use Rattle.text.specs.Text.{refusal-line, report-text}
-use Rattle.text.specs.Write.{Wrote, level-at, member-at}
+use Rattle.text.specs.Write.{Wrote}
 use Rattle.text.proofs.Write.{sets-over}
-use Rattle.text.proofs.Lines.{report-ext}
+use Rattle.lines.specs.Members.{level-at, member-at}
+use Rattle.lines.proofs.Lines.{report-ext}
 use Rattle.report.specs.Program.{cover-lines, cover-text, Reported}
 use Rattle.report.specs.Sizes.{table-text}
 

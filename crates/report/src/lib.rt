@@ -36,7 +36,7 @@ fn put_lines(
     ensures { λ r. ⌜ Wrote (now (out .entry)) 0 (cover-lines h (now (operators .entry)) (now (rides .entry)) alpha beta) 5490 (now (out .exit)) r ⌝ }
 {
     fill_levels(h, operators, rides, alpha, row);
-    text::put_cover(out, 0, alpha, beta, h.operators, h.rides, row)
+    lines::put_cover(out, 0, alpha, beta, h.operators, h.rides, row)
 }
 
 // The answer for a pair table.

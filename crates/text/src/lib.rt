@@ -1,14 +1,11 @@
 // Writers of text: each stores its text from the place `at` on, and answers the place after it.
-ghost use mathlib.Core.Path.{_≡_};
 ghost use mathlib.Core.List.{[], _∷_, _++_};
-ghost use Prim.Native.Nat.{_+_, _*_, _≤_};
-ghost use lib.Dec.{leb};
+ghost use Prim.Native.Nat.{_+_, _≤_};
 ghost use lib.ListN.{length};
-ghost use Rattle.model.specs.Count.{count};
-ghost use Rattle.text.specs.Text.{decimal, refusal-line, first-line, node-line, member-lines, member-line, report-text};
-ghost use Rattle.text.specs.Write.{Wrote, level-at, member-at};
+ghost use Rattle.text.specs.Text.{decimal, refusal-line};
+ghost use Rattle.text.specs.Write.{Wrote};
 
-fn put_bytes(out: &mut [u8], at: usize, text: &[u8]) -> usize
+pub fn put_bytes(out: &mut [u8], at: usize, text: &[u8]) -> usize
     requires { ⌜ at + length (now text) ≤ length (now out) ⌝ }
     ensures { λ r. ⌜ Wrote (now (out .entry)) at (now (text .entry)) (length (now (text .entry))) (now (out .exit)) r ⌝ }
 {
@@ -37,7 +34,7 @@ fn put_number(out: &mut [u8], at: usize, n: u16) -> usize
 }
 
 // A number and the byte after it.
-fn put_field(out: &mut [u8], at: usize, number: u16, after: u8) -> usize
+pub fn put_field(out: &mut [u8], at: usize, number: u16, after: u8) -> usize
     requires { ⌜ at + 6 ≤ length (now out) ⌝ }
     ensures { λ r. ⌜ Wrote (now (out .entry)) at (decimal number ++ (after ∷ [])) 6 (now (out .exit)) r ⌝ }
 {
@@ -52,103 +49,4 @@ pub fn put_refusal(out: &mut [u8], at: usize, number: u16) -> usize
 {
     let named = put_bytes(out, at, b"refused ");
     put_field(out, named, number, b'\n')
-}
-
-fn put_first(out: &mut [u8], at: usize, alpha: u16, beta: u16, operators: u16, rides: u16) -> usize
-    requires { ⌜ at + 30 ≤ length (now out) ⌝ }
-    ensures { λ r. ⌜ Wrote (now (out .entry)) at (first-line alpha beta operators rides) 30 (now (out .exit)) r ⌝ }
-{
-    let named = put_bytes(out, at, b"cover ");
-    let first = put_field(out, named, alpha, b' ');
-    let second = put_field(out, first, beta, b' ');
-    let third = put_field(out, second, operators, b' ');
-    put_field(out, third, rides, b'\n')
-}
-
-fn put_node(out: &mut [u8], at: usize, name: &[u8], number: u16, level: u16) -> usize
-    requires { ⌜ (length (now name) ≤ 9) × (at + 21 ≤ length (now out)) ⌝ }
-    ensures { λ r. ⌜ Wrote (now (out .entry)) at (node-line (now (name .entry)) number level) 21 (now (out .exit)) r ⌝ }
-{
-    let named = put_bytes(out, at, name);
-    let numbered = put_field(out, named, number, b' ');
-    put_field(out, numbered, level, b'\n')
-}
-
-// A node is in the cover exactly if its level is at least β.
-fn put_member(out: &mut [u8], at: usize, name: &[u8], number: u16, level: u16, beta: u16) -> usize
-    requires { ⌜ (length (now name) ≤ 9) × (at + 21 ≤ length (now out)) ⌝ }
-    ensures { λ r. ⌜ Wrote (now (out .entry)) at (member-line (now (name .entry)) (leb beta level) number level) 21 (now (out .exit)) r ⌝ }
-{
-    if beta <= level {
-        return put_node(out, at, name, number, level);
-    }
-    at
-}
-
-// The lines of those in the cover, of the nodes from `first` on.
-fn put_members(
-    out: &mut [u8],
-    at: usize,
-    name: &[u8],
-    levels: &[u16],
-    first: usize,
-    nodes: usize,
-    beta: u16,
-) -> usize
-    requires { ⌜ (length (now name) ≤ 9) × (nodes ≤ 200) × (first + nodes ≤ length (now levels)) × (at + 21 * nodes ≤ length (now out)) ⌝ }
-    ensures { λ r. ⌜
-        Wrote (now (out .entry)) at
-        (member-lines (now (name .entry)) (member-at beta (now (levels .entry)) first) (level-at (now (levels .entry)) first) nodes) (21 * nodes)
-        (now (out .exit)) r
-        ⌝ }
-{
-    let mut end = at;
-    let mut i = 0;
-    while i < nodes {
-        end = put_member(out, end, name, i as u16, levels[first + i], beta);
-        i += 1;
-    }
-    end
-}
-
-// How many are in the cover, of the nodes from `first` on.
-fn count_members(levels: &[u16], first: usize, nodes: usize, beta: u16) -> u16
-    requires { ⌜ (nodes ≤ 200) × (first + nodes ≤ length (now levels)) ⌝ }
-    ensures { λ r. ⌜ r ≡ count nodes (member-at beta (now (levels .entry)) first) ⌝ }
-{
-    let mut members = 0;
-    let mut i = 0;
-    while i < nodes {
-        if beta <= levels[first + i] {
-            members += 1;
-        }
-        i += 1;
-    }
-    members
-}
-
-// The whole text, from the levels in row α.
-pub fn put_cover(
-    out: &mut [u8],
-    at: usize,
-    alpha: u16,
-    beta: u16,
-    operators: u16,
-    rides: u16,
-    levels: &[u16],
-) -> usize
-    requires { ⌜ (operators ≤ 200) × (rides ≤ 60) × (operators + rides ≤ length (now levels)) × (at + 5490 ≤ length (now out)) ⌝ }
-    ensures { λ r. ⌜
-        Wrote (now (out .entry)) at
-        (report-text alpha beta operators rides (member-at beta (now (levels .entry)) 0) (level-at (now (levels .entry)) 0)) 5490 (now (out .exit))
-        r
-        ⌝ }
-{
-    let n = operators as usize;
-    let m = rides as usize;
-    let operator_count = count_members(levels, 0, n, beta);
-    let ride_count = count_members(levels, n, m, beta);
-    let first = put_first(out, at, alpha, beta, operator_count, ride_count);
-    let second = put_members(out, first, b"operator ", levels, 0, n, beta);
-    put_members(out, second, b"ride ", levels, n, m, beta)
 }

@@ -1,4 +1,4 @@
--- `text::put_members` meets its contract. The invariant: the lines of the first i nodes are written. Assumes nothing.
+-- `lines::put_members` meets its contract. The invariant: the lines of the first i nodes are written. Assumes nothing.
 use borrow.Author.Needs.{needs}
 use mathlib.Core.Path.{_≡_, _∙_}
 use mathlib.Core.Bool.{Bool}
@@ -7,11 +7,12 @@ use Prim.Native.Nat.{ℕ, suc, _≤_, _+_, _*_, _-_}
 use native.Mathlib.Numerals.{add-one}
 use native.Mathlib.Omega.{arith}
 use lib.ListN.{length}
 use Rattle.text.specs.Text.{member-line, member-lines}
-use Rattle.text.specs.Write.{Wrote, level-at, member-at}
+use Rattle.text.specs.Write.{Wrote}
+use Rattle.lines.specs.Members.{level-at, member-at}
 use Rattle.text.proofs.Write.{wrote-append, wrote-most}
-use Rattle.text.proofs.put_members.Statement.{statement}
-use Rattle.text.proofs.put_members.Tie as tie
+use Rattle.lines.proofs.put_members.Statement.{statement}
+use Rattle.lines.proofs.put_members.Tie as tie
 
 -- one node more
 module _ {l m n : List ℕ} {at p end : ℕ} (name : List ℕ) (inside : ℕ → Bool) (level : ℕ → ℕ) (i : ℕ) where

@@ -7,8 +7,8 @@ use native.Mathlib.Nat.{zero-add}
 use native.Mathlib.Omega.{arith}
 use Rattle.model.specs.Count.{count}
 use Rattle.model.proofs.Count.{count-ext}
 use Rattle.text.specs.Text.{bytes, first-line, member-line, member-lines, report-text}
-use Rattle.text.specs.Write.{level-at, member-at}
+use Rattle.lines.specs.Members.{level-at, member-at}
 
 module _ (name : List ℕ) (p q : ℕ → Bool) (f g : ℕ → ℕ) where
   pub member-lines-ext : (k : ℕ) → ((i : ℕ) → i < k → p i ≡ q i) → ((i : ℕ) → i < k → f i ≡ g i) → member-lines name p f k ≡ member-lines name q g k

@@ -1,4 +1,4 @@
--- `text::count_members` meets its contract. The invariant: those of the first i nodes are counted. Assumes nothing.
+-- `lines::count_members` meets its contract. The invariant: those of the first i nodes are counted. Assumes nothing.
 use borrow.Author.Needs.{needs}
 use mathlib.Core.Path.{_≡_, ap}
 use mathlib.Core.Bool.{Bool}
@@ -8,9 +8,9 @@ use native.Mathlib.Omega.{arith}
 use borrow.Author.Tests.{le-leb, lt-leb}
 use Rattle.model.specs.Count.{bit, count}
 use Rattle.model.proofs.Count.{count-more}
-use Rattle.text.specs.Write.{level-at, member-at}
-use Rattle.text.proofs.count_members.Statement.{statement}
-use Rattle.text.proofs.count_members.Tie as tie
+use Rattle.lines.specs.Members.{level-at, member-at}
+use Rattle.lines.proofs.count_members.Statement.{statement}
+use Rattle.lines.proofs.count_members.Tie as tie
 
 abbrev Inv-loop : tie.InvT-loop
 Inv-loop levels first nodes beta members₀ i₀ members i = (i ≤ nodes) × (members ≤ i) × (members ≡ count i (member-at beta levels first))

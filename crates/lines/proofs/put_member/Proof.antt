@@ -1,10 +1,10 @@
--- `text::put_member` meets its contract. Assumes nothing.
+-- `lines::put_member` meets its contract. Assumes nothing.
 use borrow.Author.Needs.{needs}
 use native.Mathlib.Omega.{arith}
 use borrow.Author.Tests.{le-leb, lt-leb}
 use Rattle.text.proofs.Write.{wrote-none, wrote-most}
-use Rattle.text.proofs.put_member.Statement.{statement}
-use Rattle.text.proofs.put_member.Tie as tie
+use Rattle.lines.proofs.put_member.Statement.{statement}
+use Rattle.lines.proofs.put_member.Tie as tie
 
 put-node-requires : tie.Need-put-node-requires
 put-node-requires c κs = search needs

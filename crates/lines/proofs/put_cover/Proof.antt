@@ -1,10 +1,10 @@
--- `text::put_cover` meets its contract. Assumes nothing.
+-- `lines::put_cover` meets its contract. Assumes nothing.
 use borrow.Author.Needs.{needs}
 use native.Mathlib.Omega.{arith}
-use Rattle.text.proofs.Lines.{row-text}
+use Rattle.lines.proofs.Lines.{row-text}
 use Rattle.text.proofs.Write.{wrote-append, wrote-text, wrote-most}
-use Rattle.text.proofs.put_cover.Statement.{statement}
-use Rattle.text.proofs.put_cover.Tie as tie
+use Rattle.lines.proofs.put_cover.Statement.{statement}
+use Rattle.lines.proofs.put_cover.Tie as tie
 
 count-members-requires : tie.Need-count-members-requires
 count-members-requires c κs = search needs

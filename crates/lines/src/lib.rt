@@ -1,0 +1,108 @@
+// Writers of the lines of a cover: each stores its lines from the place `at` on, and answers the place after them.
+ghost use mathlib.Core.Path.{_≡_};
+ghost use Prim.Native.Nat.{_+_, _*_, _≤_};
+ghost use lib.Dec.{leb};
+ghost use lib.ListN.{length};
+ghost use Rattle.model.specs.Count.{count};
+ghost use Rattle.text.specs.Text.{first-line, node-line, member-lines, member-line, report-text};
+ghost use Rattle.text.specs.Write.{Wrote};
+ghost use Rattle.lines.specs.Members.{level-at, member-at};
+
+fn put_first(out: &mut [u8], at: usize, alpha: u16, beta: u16, operators: u16, rides: u16) -> usize
+    requires { ⌜ at + 30 ≤ length (now out) ⌝ }
+    ensures { λ r. ⌜ Wrote (now (out .entry)) at (first-line alpha beta operators rides) 30 (now (out .exit)) r ⌝ }
+{
+    let named = text::put_bytes(out, at, b"cover ");
+    let first = text::put_field(out, named, alpha, b' ');
+    let second = text::put_field(out, first, beta, b' ');
+    let third = text::put_field(out, second, operators, b' ');
+    text::put_field(out, third, rides, b'\n')
+}
+
+fn put_node(out: &mut [u8], at: usize, name: &[u8], number: u16, level: u16) -> usize
+    requires { ⌜ (length (now name) ≤ 9) × (at + 21 ≤ length (now out)) ⌝ }
+    ensures { λ r. ⌜ Wrote (now (out .entry)) at (node-line (now (name .entry)) number level) 21 (now (out .exit)) r ⌝ }
+{
+    let named = text::put_bytes(out, at, name);
+    let numbered = text::put_field(out, named, number, b' ');
+    text::put_field(out, numbered, level, b'\n')
+}
+
+// A node is in the cover exactly if its level is at least β.
+fn put_member(out: &mut [u8], at: usize, name: &[u8], number: u16, level: u16, beta: u16) -> usize
+    requires { ⌜ (length (now name) ≤ 9) × (at + 21 ≤ length (now out)) ⌝ }
+    ensures { λ r. ⌜ Wrote (now (out .entry)) at (member-line (now (name .entry)) (leb beta level) number level) 21 (now (out .exit)) r ⌝ }
+{
+    if beta <= level {
+        return put_node(out, at, name, number, level);
+    }
+    at
+}
+
+// The lines of those in the cover, of the nodes from `first` on.
+fn put_members(
+    out: &mut [u8],
+    at: usize,
+    name: &[u8],
+    levels: &[u16],
+    first: usize,
+    nodes: usize,
+    beta: u16,
+) -> usize
+    requires { ⌜ (length (now name) ≤ 9) × (nodes ≤ 200) × (first + nodes ≤ length (now levels)) × (at + 21 * nodes ≤ length (now out)) ⌝ }
+    ensures { λ r. ⌜
+        Wrote (now (out .entry)) at
+        (member-lines (now (name .entry)) (member-at beta (now (levels .entry)) first) (level-at (now (levels .entry)) first) nodes) (21 * nodes)
+        (now (out .exit)) r
+        ⌝ }
+{
+    let mut end = at;
+    let mut i = 0;
+    while i < nodes {
+        end = put_member(out, end, name, i as u16, levels[first + i], beta);
+        i += 1;
+    }
+    end
+}
+
+// How many are in the cover, of the nodes from `first` on.
+fn count_members(levels: &[u16], first: usize, nodes: usize, beta: u16) -> u16
+    requires { ⌜ (nodes ≤ 200) × (first + nodes ≤ length (now levels)) ⌝ }
+    ensures { λ r. ⌜ r ≡ count nodes (member-at beta (now (levels .entry)) first) ⌝ }
+{
+    let mut members = 0;
+    let mut i = 0;
+    while i < nodes {
+        if beta <= levels[first + i] {
+            members += 1;
+        }
+        i += 1;
+    }
+    members
+}
+
+// The whole text, from the levels in row α.
+pub fn put_cover(
+    out: &mut [u8],
+    at: usize,
+    alpha: u16,
+    beta: u16,
+    operators: u16,
+    rides: u16,
+    levels: &[u16],
+) -> usize
+    requires { ⌜ (operators ≤ 200) × (rides ≤ 60) × (operators + rides ≤ length (now levels)) × (at + 5490 ≤ length (now out)) ⌝ }
+    ensures { λ r. ⌜
+        Wrote (now (out .entry)) at
+        (report-text alpha beta operators rides (member-at beta (now (levels .entry)) 0) (level-at (now (levels .entry)) 0)) 5490 (now (out .exit))
+        r
+        ⌝ }
+{
+    let n = operators as usize;
+    let m = rides as usize;
+    let operator_count = count_members(levels, 0, n, beta);
+    let ride_count = count_members(levels, n, m, beta);
+    let first = put_first(out, at, alpha, beta, operator_count, ride_count);
+    let second = put_members(out, first, b"operator ", levels, 0, n, beta);
+    put_members(out, second, b"ride ", levels, n, m, beta)
+}
