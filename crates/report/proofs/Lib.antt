@@ -2,3 +2,4 @@ pub mod Enough
 pub mod Sample
 pub mod Sizes
 pub mod Report
+pub mod Filled

@@ -17,7 +17,12 @@ fn fill_levels(h: Head, operators: &[u16], rides: &[u16], alpha: u16, row: &mut 
     ensures { λ _. ⌜ now (row .exit) ≡ levels-row (graph h (now (operators .entry)) (now (rides .entry))) alpha ⌝ }
 {
     if alpha <= h.rides {
-        row::row_of(h, operators, rides, alpha as u8, row);
+        let n = h.operators as usize;
+        let m = h.rides as usize;
+        let mut by_operator = [0u8; 12000];
+        let mut by_ride = [0u8; 12000];
+        let degrees = degrees::tabulate(h, operators, rides, &mut by_operator, &mut by_ride);
+        row::fill_row(&by_operator, &by_ride, degrees, n, m, alpha as u8, row);
     }
 }
 

@@ -3,13 +3,10 @@ ghost use mathlib.Core.Path.{_≡_};
 ghost use Prim.Native.Nat.{_+_, _≤_};
 ghost use lib.ListN.{length};
 ghost use Rattle.model.specs.Graph.{row as levels-row};
-ghost use Rattle.model.specs.Layout.{graph, mark-places};
-ghost use Rattle.pairs.specs.Accepted.{AcceptedPairs};
-ghost use Rattle.tables.specs.Table.{ZeroTables, table-graph};
+ghost use Rattle.tables.specs.Table.{table-graph};
 ghost use Rattle.degrees.specs.Everybody.{Tabulated};
 ghost use Rattle.row.specs.Row.{work, Fits, Raising, Settled, Rounded, Lower, Least, Start};
 use degrees::Degrees;
-use model::Head;
 
 // Sweeps the rides and then the operators once.
 fn round(
@@ -213,47 +210,5 @@ pub fn fill_row(
         by_operator,
         by_ride,
         alpha,
-    );
-}
-
-// The row of alpha over tables of zeros.
-fn row_over(
-    head: Head,
-    operators: &[u16],
-    rides: &[u16],
-    by_operator: &mut [u8],
-    by_ride: &mut [u8],
-    alpha: u8,
-    row: &mut [u16],
-)
-    requires { ⌜
-        AcceptedPairs head (now operators) (now rides) ×
-        ZeroTables (now «by_operator») (now «by_ride») ×
-        (1 ≤ alpha) ×
-        (length (now row) ≡ mark-places head)
-        ⌝ }
-    ensures { λ _. ⌜ now (row .exit) ≡ levels-row (graph head (now (operators .entry)) (now (rides .entry))) alpha ⌝ }
-{
-    let n = head.operators as usize;
-    let m = head.rides as usize;
-    let degrees = degrees::tabulate(head, operators, rides, by_operator, by_ride);
-    fill_row(by_operator, by_ride, degrees, n, m, alpha, row);
-}
-
-// Row alpha of the index of a pair table.
-pub fn row_of(head: Head, operators: &[u16], rides: &[u16], alpha: u8, row: &mut [u16])
-    requires { ⌜ AcceptedPairs head (now operators) (now rides) × (1 ≤ alpha) × (length (now row) ≡ mark-places head) ⌝ }
-    ensures { λ _. ⌜ now (row .exit) ≡ levels-row (graph head (now (operators .entry)) (now (rides .entry))) alpha ⌝ }
-{
-    let mut by_operator = [0u8; 12000];
-    let mut by_ride = [0u8; 12000];
-    row_over(
-        head,
-        operators,
-        rides,
-        &mut by_operator,
-        &mut by_ride,
-        alpha,
-        row,
     );
 }

@@ -1,21 +1,49 @@
--- `report::fill_levels` meets its contract. Assumes nothing.
+-- `report::fill_levels` meets its contract: tables of zeros are filled, and one row from them. Assumes nothing.
 use borrow.Author.Needs.{needs}
+use mathlib.Core.Path.{_∙_}
 use Rattle.model.specs.Layout.{graph}
+use Rattle.tables.proofs.Held.{zero-tables}
+use Rattle.report.proofs.Filled.{held-row}
 use Rattle.report.proofs.Report.{row-above}
 use Rattle.report.proofs.fill_levels.Statement.{statement}
 use Rattle.report.proofs.fill_levels.Tie as tie
 
-cast-row-of : tie.Need-cast-row-of
-cast-row-of c = search needs
+cast-n : tie.Need-cast-n
+cast-n c = search needs
 
-row-of-requires : tie.Need-row-of-requires
-row-of-requires c κs = search needs
+cast-m : tie.Need-cast-m
+cast-m c = search needs
+
+slice-aggregate-tabulate : tie.Need-slice-aggregate-tabulate
+slice-aggregate-tabulate c = search needs
+
+slice-aggregate-tabulate-2 : tie.Need-slice-aggregate-tabulate-2
+slice-aggregate-tabulate-2 c = search needs
+
+tabulate-requires : tie.Need-tabulate-requires
+tabulate-requires c κs = (c .before .before .before .before .before .before .before .before .before .pre .0 .0, zero-tables)
+
+slice-aggregate-fill-row : tie.Need-slice-aggregate-fill-row
+slice-aggregate-fill-row c = search needs
+
+slice-aggregate-fill-row-2 : tie.Need-slice-aggregate-fill-row-2
+slice-aggregate-fill-row-2 c = search needs
+
+cast-fill-row : tie.Need-cast-fill-row
+cast-fill-row c = search needs
+
+fill-row-requires : tie.Need-fill-row-requires
+fill-row-requires c κs = search needs
 
 same-length : tie.Need-same-length
 same-length c = search needs
 
 returns : tie.Need-returns
-returns c = search needs
+returns c =
+    let row = c .before .before in
+    let tables = row .before .before .before .before .before .before in
+    let start = tables .before .before .before .before .before .before .before .before .before .before in
+    row .fill-row .ensures ∙ held-row _ _ _ (tables .tabulate .ensures .0) (start .args .alpha)
 
 returns-2 : tie.Need-returns-2
 returns-2 c =
@@ -24,4 +52,18 @@ returns-2 c =
     row-above (graph (a .h) (a .operators .now) (a .rides .now)) (a .alpha) (c .if1 .left) (a .row .now) (start .pre .0 .2) (start .pre .1)
 
 pub fill-levels-spec : {M : Type 1} → statement M
-fill-levels-spec = tie.close (tie.spec cast-row-of row-of-requires same-length returns returns-2)
+fill-levels-spec =
+    tie.close
+    (tie.spec
+    cast-n
+    cast-m
+    slice-aggregate-tabulate
+    slice-aggregate-tabulate-2
+    tabulate-requires
+    slice-aggregate-fill-row
+    slice-aggregate-fill-row-2
+    cast-fill-row
+    fill-row-requires
+    same-length
+    returns
+    returns-2)
