@@ -3,17 +3,14 @@
 use crate::numbers::Numbers;
 use differential::guarded::{End, Region};
 use reference::frames::{Board, Reference};
-use reference::{Answer, Counts, Head, Message, Peeled};
+use reference::{Answer, Counts, Head, Message, Parts, Peeled, Slices, Vectors};
 use std::fmt::Debug;
 
-/// The parts of a board, each as long as it is lent.
+/// A board, each part as long as it is lent.
 #[derive(Clone, Debug, PartialEq, Eq)]
 pub struct Lent {
     pub head: Head,
-    pub operators: Vec<u16>,
-    pub rides: Vec<u16>,
-    pub stamps: Vec<u32>,
-    pub index: Vec<u16>,
+    pub parts: Vectors,
 }
 
 /// The most places that are lent of a part, longer than any board needs.
@@ -25,13 +22,49 @@ pub const LIST_MOST: usize = 400;
 /// Guarded memory for everything that a call is lent.
 struct Regions {
     head: Region<Head>,
-    operators: Region<u16>,
-    rides: Region<u16>,
-    stamps: Region<u32>,
-    index: Region<u16>,
+    parts: Parts<Region<u16>, Region<u32>>,
     marks: Region<u16>,
     messages: Region<Message>,
     answers: Region<u16>,
+}
+
+impl Regions {
+    fn new() -> Regions {
+        let parts = Parts {
+            operators: Region::new(PAIRS_MOST),
+            rides: Region::new(PAIRS_MOST),
+            stamps: Region::new(PAIRS_MOST),
+            index: Region::new(INDEX_MOST),
+        };
+        let (marks, messages, answers) = (Region::new(MARKS_MOST), Region::new(LIST_MOST), Region::new(LIST_MOST));
+        Regions { head: Region::new(1), parts, marks, messages, answers }
+    }
+
+    fn are_intact(&self) -> bool {
+        let Parts { operators, rides, stamps, index } = &self.parts;
+        let board = operators.is_intact() && rides.is_intact() && stamps.is_intact() && index.is_intact();
+        let lists = self.messages.is_intact() && self.answers.is_intact();
+        self.head.is_intact() && board && self.marks.is_intact() && lists
+    }
+}
+
+/// An end by chance.
+fn end(ends: &mut Numbers) -> End {
+    if ends.one_in(2) {
+        End::Low
+    } else {
+        End::High
+    }
+}
+
+/// Lends the words of each part, to be written.
+fn lend_parts<'a>(regions: &'a mut Parts<Region<u16>, Region<u32>>, words: &Vectors, ends: &mut Numbers) -> Slices<'a> {
+    Parts {
+        operators: regions.operators.lend_mut(&words.operators, end(ends)),
+        rides: regions.rides.lend_mut(&words.rides, end(ends)),
+        stamps: regions.stamps.lend_mut(&words.stamps, end(ends)),
+        index: regions.index.lend_mut(&words.index, end(ends)),
+    }
 }
 
 /// What was compared so far.
@@ -71,12 +104,20 @@ impl Totals {
         }
     }
 
-    fn same_words<T: PartialEq + Debug>(&mut self, what: &str, library: &[T], reference: &[T]) {
+    fn same_words<T: PartialEq + Debug>(&mut self, call: &str, part: &str, library: &[T], reference: &[T]) {
         self.words += reference.len() as u64;
         if let Some(place) = (0..reference.len()).find(|&place| library[place] != reference[place]) {
             let (found, expected) = (&library[place], &reference[place]);
-            self.differ(&format!("{what} at {place}: library {found:?}, reference {expected:?}"));
+            self.differ(&format!("{call}, {part} at {place}: library {found:?}, reference {expected:?}"));
         }
+    }
+
+    fn same_parts(&mut self, call: &str, library: &Slices, reference: &Vectors) {
+        let Parts { operators, rides, stamps, index } = library;
+        self.same_words(call, "operators", operators, &reference.operators);
+        self.same_words(call, "rides", rides, &reference.rides);
+        self.same_words(call, "stamps", stamps, &reference.stamps);
+        self.same_words(call, "index", index, &reference.index);
     }
 
     pub fn differ(&mut self, what: &str) {
@@ -95,147 +136,96 @@ pub struct Compared<B> {
 
 impl<B: Board> Compared<B> {
     pub fn new(library: B, seed: u64) -> Compared<B> {
-        Compared {
-            library,
-            regions: Regions {
-                head: Region::new(1),
-                operators: Region::new(PAIRS_MOST),
-                rides: Region::new(PAIRS_MOST),
-                stamps: Region::new(PAIRS_MOST),
-                index: Region::new(INDEX_MOST),
-                marks: Region::new(MARKS_MOST),
-                messages: Region::new(LIST_MOST),
-                answers: Region::new(LIST_MOST),
-            },
-            ends: Numbers::new(!seed),
-            totals: Totals::default(),
-        }
-    }
-
-    fn end(&mut self) -> End {
-        if self.ends.one_in(2) {
-            End::Low
-        } else {
-            End::High
-        }
+        Compared { library, regions: Regions::new(), ends: Numbers::new(!seed), totals: Totals::default() }
     }
 
     fn check_filled(&mut self) {
-        let r = &self.regions;
-        let board = r.operators.is_intact() && r.rides.is_intact() && r.stamps.is_intact() && r.index.is_intact();
-        let others = r.head.is_intact() && r.marks.is_intact() && r.messages.is_intact() && r.answers.is_intact();
-        self.totals.same("memory beside the lent parts is intact", board && others, true);
+        self.totals.same("memory beside the lent parts is intact", self.regions.are_intact(), true);
     }
 
     pub fn build(&mut self, lent: &mut Lent, start: u32) -> u16 {
-        let ends = [self.end(), self.end(), self.end(), self.end()];
-        let before = lent.clone();
-        let expected =
-            Reference.build(lent.head, &mut lent.operators, &mut lent.rides, start, &mut lent.stamps, &mut lent.index);
-        let (r, totals) = (&mut self.regions, &mut self.totals);
-        let operators = r.operators.lend_mut(&before.operators, ends[0]);
-        let rides = r.rides.lend_mut(&before.rides, ends[1]);
-        let stamps = r.stamps.lend_mut(&before.stamps, ends[2]);
-        let index = r.index.lend_mut(&before.index, ends[3]);
-        let found = self.library.build(lent.head, operators, rides, start, stamps, index);
+        let before = lent.parts.clone();
+        let expected = Reference.build(lent.head, &mut lent.parts.lend(), start);
+        let Compared { library, regions, ends, totals } = self;
+        let mut parts = lend_parts(&mut regions.parts, &before, ends);
+        let found = library.build(lent.head, &mut parts, start);
         totals.builds += 1;
         totals.number(lent.head, found);
         totals.same("build", found, expected);
-        totals.same_words("build, operators", operators, &lent.operators);
-        totals.same_words("build, rides", rides, &lent.rides);
-        totals.same_words("build, stamps", stamps, &lent.stamps);
-        totals.same_words("build, index", index, &lent.index);
+        totals.same_parts("build", &parts, &lent.parts);
         self.check_filled();
         expected
     }
 
     pub fn query(&mut self, lent: &Lent, alpha: u16, beta: u16, marks: &mut [u16]) -> Counts {
-        let ends = [self.end(), self.end()];
         let before = marks.to_vec();
-        let expected = Reference.query(lent.head, &lent.index, alpha, beta, marks);
-        let (r, totals) = (&mut self.regions, &mut self.totals);
-        let index = r.index.lend(&lent.index, ends[0]);
-        let library = r.marks.lend_mut(&before, ends[1]);
-        let found = self.library.query(lent.head, index, alpha, beta, library);
+        let expected = Reference.query(lent.head, &lent.parts.index, alpha, beta, marks);
+        let Compared { library, regions, ends, totals } = self;
+        let index = regions.parts.index.lend(&lent.parts.index, end(ends));
+        let left = regions.marks.lend_mut(&before, end(ends));
+        let found = library.query(lent.head, index, alpha, beta, left);
         totals.queries += 1;
         totals.number(lent.head, found.code);
         totals.same("query", found, expected);
-        totals.same_words("query, index", index, &lent.index);
-        totals.same_words("query, marks", library, marks);
+        totals.same_words("query", "index", index, &lent.parts.index);
+        totals.same_words("query", "marks", left, marks);
         self.check_filled();
         expected
     }
 
     pub fn peel(&mut self, lent: &Lent, marks: &mut [u16], alpha: u16, beta: u16, steps: u16) -> Peeled {
-        let ends = [self.end(), self.end(), self.end()];
         let before = marks.to_vec();
-        let expected = Reference.peel(lent.head, &lent.operators, &lent.rides, marks, alpha, beta, steps);
-        let (r, totals) = (&mut self.regions, &mut self.totals);
-        let operators = r.operators.lend(&lent.operators, ends[0]);
-        let rides = r.rides.lend(&lent.rides, ends[1]);
-        let library = r.marks.lend_mut(&before, ends[2]);
-        let found = self.library.peel(lent.head, operators, rides, library, alpha, beta, steps);
+        let expected = Reference.peel(lent.head, &lent.parts.operators, &lent.parts.rides, marks, alpha, beta, steps);
+        let Compared { library, regions, ends, totals } = self;
+        let operators = regions.parts.operators.lend(&lent.parts.operators, end(ends));
+        let rides = regions.parts.rides.lend(&lent.parts.rides, end(ends));
+        let left = regions.marks.lend_mut(&before, end(ends));
+        let found = library.peel(lent.head, operators, rides, left, alpha, beta, steps);
         totals.peels += 1;
         totals.number(lent.head, found.code);
         totals.settled += (found.code == 0 && found.settled == 1) as u64;
         totals.unsettled += (found.code == 0 && found.settled == 0) as u64;
         totals.same("peel", found, expected);
-        totals.same_words("peel, operators", operators, &lent.operators);
-        totals.same_words("peel, rides", rides, &lent.rides);
-        totals.same_words("peel, marks", library, marks);
+        totals.same_words("peel", "operators", operators, &lent.parts.operators);
+        totals.same_words("peel", "rides", rides, &lent.parts.rides);
+        totals.same_words("peel", "marks", left, marks);
         self.check_filled();
         expected
     }
 
     pub fn message(&mut self, lent: &mut Lent, one: Message) -> Answer {
-        let ends = [self.end(), self.end(), self.end(), self.end(), self.end()];
         let before = lent.clone();
-        let Lent { head, operators, rides, stamps, index } = lent;
-        let expected = Reference.message(head, operators, rides, stamps, index, one);
-        let (r, totals) = (&mut self.regions, &mut self.totals);
-        let head = r.head.lend_mut(&[before.head], ends[0]);
-        let operators = r.operators.lend_mut(&before.operators, ends[1]);
-        let rides = r.rides.lend_mut(&before.rides, ends[2]);
-        let stamps = r.stamps.lend_mut(&before.stamps, ends[3]);
-        let index = r.index.lend_mut(&before.index, ends[4]);
-        let found = self.library.message(&mut head[0], operators, rides, stamps, index, one);
+        let expected = Reference.message(&mut lent.head, &mut lent.parts.lend(), one);
+        let Compared { library, regions, ends, totals } = self;
+        let head = regions.head.lend_mut(&[before.head], end(ends));
+        let mut parts = lend_parts(&mut regions.parts, &before.parts, ends);
+        let found = library.message(&mut head[0], &mut parts, one);
         totals.messages += 1;
         totals.number(lent.head, found.code);
         totals.same("message", found, expected);
-        totals.same_words("message, head", head, &[lent.head]);
-        totals.same_words("message, operators", operators, &lent.operators);
-        totals.same_words("message, rides", rides, &lent.rides);
-        totals.same_words("message, stamps", stamps, &lent.stamps);
-        totals.same_words("message, index", index, &lent.index);
+        totals.same_words("message", "head", head, &[lent.head]);
+        totals.same_parts("message", &parts, &lent.parts);
         self.check_filled();
         expected
     }
 
     pub fn messages(&mut self, lent: &mut Lent, list: &[Message], answers: &mut [u16]) -> u16 {
-        let ends = [self.end(), self.end(), self.end(), self.end(), self.end(), self.end(), self.end()];
         let (before, answers_before) = (lent.clone(), answers.to_vec());
-        let Lent { head, operators, rides, stamps, index } = lent;
-        let expected = Reference.messages(head, operators, rides, stamps, index, list, answers);
-        let (r, totals) = (&mut self.regions, &mut self.totals);
-        let head = r.head.lend_mut(&[before.head], ends[0]);
-        let operators = r.operators.lend_mut(&before.operators, ends[1]);
-        let rides = r.rides.lend_mut(&before.rides, ends[2]);
-        let stamps = r.stamps.lend_mut(&before.stamps, ends[3]);
-        let index = r.index.lend_mut(&before.index, ends[4]);
-        let messages = r.messages.lend(list, ends[5]);
-        let library = r.answers.lend_mut(&answers_before, ends[6]);
-        let found = self.library.messages(&mut head[0], operators, rides, stamps, index, messages, library);
+        let expected = Reference.messages(&mut lent.head, &mut lent.parts.lend(), list, answers);
+        let Compared { library, regions, ends, totals } = self;
+        let head = regions.head.lend_mut(&[before.head], end(ends));
+        let mut parts = lend_parts(&mut regions.parts, &before.parts, ends);
+        let messages = regions.messages.lend(list, end(ends));
+        let left = regions.answers.lend_mut(&answers_before, end(ends));
+        let found = library.messages(&mut head[0], &mut parts, messages, left);
         totals.lists += 1;
         totals.listed_messages += list.len() as u64;
         totals.number(lent.head, found);
         totals.same("message list", found, expected);
-        totals.same_words("message list, head", head, &[lent.head]);
-        totals.same_words("message list, operators", operators, &lent.operators);
-        totals.same_words("message list, rides", rides, &lent.rides);
-        totals.same_words("message list, stamps", stamps, &lent.stamps);
-        totals.same_words("message list, index", index, &lent.index);
-        totals.same_words("message list, messages", messages, list);
-        totals.same_words("message list, answers", library, answers);
+        totals.same_words("message list", "head", head, &[lent.head]);
+        totals.same_parts("message list", &parts, &lent.parts);
+        totals.same_words("message list", "messages", messages, list);
+        totals.same_words("message list", "answers", left, answers);
         self.check_filled();
         expected
     }

@@ -4,7 +4,7 @@ use crate::compared::Compared;
 use crate::numbers::Numbers;
 use crate::sequences::{delivery, sequence, Size};
 use reference::frames::{Board, Reference};
-use reference::{Answer, Counts, Head, Message, Peeled};
+use reference::{Answer, Counts, Head, Message, Peeled, Slices};
 
 #[derive(Clone, Copy, Debug, PartialEq, Eq)]
 enum Fault {
@@ -49,20 +49,12 @@ fn spoil(part: &mut [u16]) {
 }
 
 impl Board for Faulty {
-    fn build(
-        &mut self,
-        head: Head,
-        operators: &mut [u16],
-        rides: &mut [u16],
-        start: u32,
-        stamps: &mut [u32],
-        index: &mut [u16],
-    ) -> u16 {
-        let code = Reference.build(head, operators, rides, start, stamps, index);
+    fn build(&mut self, head: Head, parts: &mut Slices, start: u32) -> u16 {
+        let code = Reference.build(head, parts, start);
         match (self.0, code) {
             (Fault::BuildRefuses, 0) => return 5,
-            (Fault::BuildIndex, 0) => spoil(index),
-            (Fault::BuildWritesThoughRefused, 1..) => spoil(rides),
+            (Fault::BuildIndex, 0) => spoil(parts.index),
+            (Fault::BuildWritesThoughRefused, 1..) => spoil(parts.rides),
             _ => {}
         }
         code
@@ -97,18 +89,10 @@ impl Board for Faulty {
         peeled
     }
 
-    fn message(
-        &mut self,
-        head: &mut Head,
-        operators: &mut [u16],
-        rides: &mut [u16],
-        stamps: &mut [u32],
-        index: &mut [u16],
-        message: Message,
-    ) -> Answer {
-        let mut answer = Reference.message(head, operators, rides, stamps, index, message);
+    fn message(&mut self, head: &mut Head, parts: &mut Slices, message: Message) -> Answer {
+        let mut answer = Reference.message(head, parts, message);
         match (self.0, answer.code) {
-            (Fault::MessageStamp, 0) => stamps[0] ^= 1,
+            (Fault::MessageStamp, 0) => parts.stamps[0] ^= 1,
             (Fault::MessageDiffer, 0) => answer.differ += 1,
             (Fault::MessagePairs, 0) => head.pairs ^= 1,
             _ => {}
@@ -116,17 +100,8 @@ impl Board for Faulty {
         answer
     }
 
-    fn messages(
-        &mut self,
-        head: &mut Head,
-        operators: &mut [u16],
-        rides: &mut [u16],
-        stamps: &mut [u32],
-        index: &mut [u16],
-        messages: &[Message],
-        answers: &mut [u16],
-    ) -> u16 {
-        let code = Reference.messages(head, operators, rides, stamps, index, messages, answers);
+    fn messages(&mut self, head: &mut Head, parts: &mut Slices, messages: &[Message], answers: &mut [u16]) -> u16 {
+        let code = Reference.messages(head, parts, messages, answers);
         match (self.0, code) {
             (Fault::ListAnswer, 0) => spoil(answers),
             (Fault::ListNumber, 1..) => return 0,

@@ -4,7 +4,7 @@ pub mod guarded;
 
 use board::exported;
 use reference::frames::Board;
-use reference::{Answer, Counts, Head, Message, Peeled};
+use reference::{Answer, Counts, Head, Message, Parts, Peeled, Slices};
 
 fn head_of(head: Head) -> board::Head {
     board::Head { operators: head.operators, rides: head.rides, pairs: head.pairs }
@@ -34,15 +34,8 @@ const _: () = {
 pub struct Proved;
 
 impl Board for Proved {
-    fn build(
-        &mut self,
-        head: Head,
-        operators: &mut [u16],
-        rides: &mut [u16],
-        start: u32,
-        stamps: &mut [u32],
-        index: &mut [u16],
-    ) -> u16 {
+    fn build(&mut self, head: Head, parts: &mut Slices, start: u32) -> u16 {
+        let Parts { operators, rides, stamps, index } = parts;
         unsafe {
             exported::board_build(
                 head_of(head),
@@ -94,15 +87,8 @@ impl Board for Proved {
         Peeled { code: peeled.code, settled: peeled.settled, steps: peeled.steps }
     }
 
-    fn message(
-        &mut self,
-        head: &mut Head,
-        operators: &mut [u16],
-        rides: &mut [u16],
-        stamps: &mut [u32],
-        index: &mut [u16],
-        message: Message,
-    ) -> Answer {
+    fn message(&mut self, head: &mut Head, parts: &mut Slices, message: Message) -> Answer {
+        let Parts { operators, rides, stamps, index } = parts;
         let answer = unsafe {
             exported::board_message(
                 (head as *mut Head).cast(),
@@ -120,16 +106,8 @@ impl Board for Proved {
         Answer { code: answer.code, differ: answer.differ }
     }
 
-    fn messages(
-        &mut self,
-        head: &mut Head,
-        operators: &mut [u16],
-        rides: &mut [u16],
-        stamps: &mut [u32],
-        index: &mut [u16],
-        messages: &[Message],
-        answers: &mut [u16],
-    ) -> u16 {
+    fn messages(&mut self, head: &mut Head, parts: &mut Slices, messages: &[Message], answers: &mut [u16]) -> u16 {
+        let Parts { operators, rides, stamps, index } = parts;
         unsafe {
             exported::board_messages(
                 (head as *mut Head).cast(),

@@ -3,7 +3,7 @@
 use crate::compared::{Compared, Lent, INDEX_MOST, LIST_MOST, MARKS_MOST, PAIRS_MOST};
 use crate::numbers::Numbers;
 use reference::frames::Board;
-use reference::{Head, Message, GRANT, WITHDRAWAL};
+use reference::{Head, Message, Vectors, GRANT, WITHDRAWAL};
 use std::collections::BTreeMap;
 
 const START: u32 = 100;
@@ -70,20 +70,17 @@ fn table(numbers: &mut Numbers, n: u16, m: u16) -> Vec<(u16, u16)> {
 /// Memory of any content for a board, with its pairs in place: as long as needed, or a little longer.
 fn lent(numbers: &mut Numbers, n: u16, m: u16, pairs: &[(u16, u16)]) -> Lent {
     let head = Head { operators: n, rides: m, pairs: pairs.len() as u16 };
-    let mut length = |places: usize| places + numbers.of(&[0, 0, 0, 1, 2, 5]);
-    let (operators, rides) = (length(head.places()), length(head.places()));
-    let (stamps, index) = (length(head.places()), length(head.words()));
-    let mut lent = Lent {
-        head,
-        operators: (0..operators).map(|_| numbers.word()).collect(),
-        rides: (0..rides).map(|_| numbers.word()).collect(),
-        stamps: (0..stamps).map(|_| numbers.next() as u32).collect(),
-        index: (0..index).map(|_| numbers.word()).collect(),
+    let lengths = head.lengths().map(|needed| needed + numbers.of(&[0, 0, 0, 1, 2, 5]));
+    let mut parts = Vectors {
+        operators: (0..lengths.operators).map(|_| numbers.word()).collect(),
+        rides: (0..lengths.rides).map(|_| numbers.word()).collect(),
+        stamps: (0..lengths.stamps).map(|_| numbers.next() as u32).collect(),
+        index: (0..lengths.index).map(|_| numbers.word()).collect(),
     };
     for (place, pair) in pairs.iter().enumerate() {
-        (lent.operators[place], lent.rides[place]) = *pair;
+        (parts.operators[place], parts.rides[place]) = *pair;
     }
-    lent
+    Lent { head, parts }
 }
 
 /// Cuts a part short, or makes it longer.
@@ -106,7 +103,7 @@ fn spoil(numbers: &mut Numbers, part: &mut [u16], word: u16) {
 
 /// Damages one thing of a board.
 fn damage(numbers: &mut Numbers, lent: &mut Lent) {
-    let head = lent.head;
+    let (head, parts) = (lent.head, &mut lent.parts);
     let pairs = head.pairs as usize;
     match numbers.below(14) {
         0 => {
@@ -118,40 +115,40 @@ fn damage(numbers: &mut Numbers, lent: &mut Lent) {
             let over = (head.places() + 1).min(65535) as u16;
             lent.head.pairs = numbers.of(&[over, 65535, head.pairs.saturating_add(1), head.pairs.saturating_sub(1)])
         }
-        3 => resize(numbers, &mut lent.operators, PAIRS_MOST),
-        4 => resize(numbers, &mut lent.rides, PAIRS_MOST),
-        5 => resize(numbers, &mut lent.stamps, PAIRS_MOST),
-        6 => resize(numbers, &mut lent.index, INDEX_MOST),
+        3 => resize(numbers, &mut parts.operators, PAIRS_MOST),
+        4 => resize(numbers, &mut parts.rides, PAIRS_MOST),
+        5 => resize(numbers, &mut parts.stamps, PAIRS_MOST),
+        6 => resize(numbers, &mut parts.index, INDEX_MOST),
         7 => {
             let word = numbers.of(&[0, head.operators, head.operators.saturating_sub(1), 65535]);
-            let used = pairs.min(lent.operators.len());
-            spoil(numbers, &mut lent.operators[..used], word);
+            let used = pairs.min(parts.operators.len());
+            spoil(numbers, &mut parts.operators[..used], word);
         }
         8 => {
             let word = numbers.of(&[0, head.rides, head.rides.saturating_sub(1), 65535]);
-            let used = pairs.min(lent.rides.len());
-            spoil(numbers, &mut lent.rides[..used], word);
+            let used = pairs.min(parts.rides.len());
+            spoil(numbers, &mut parts.rides[..used], word);
         }
-        9 if 2 <= pairs && pairs <= lent.operators.len().min(lent.rides.len()) => {
+        9 if 2 <= pairs && pairs <= parts.operators.len().min(parts.rides.len()) => {
             let place = numbers.below(pairs - 1);
-            lent.operators.swap(place, place + 1);
-            lent.rides.swap(place, place + 1);
+            parts.operators.swap(place, place + 1);
+            parts.rides.swap(place, place + 1);
         }
-        10 if !lent.stamps.is_empty() => {
-            let place = numbers.below(lent.stamps.len());
-            lent.stamps[place] = numbers.of(&[0, 1, START, u32::MAX]);
+        10 if !parts.stamps.is_empty() => {
+            let place = numbers.below(parts.stamps.len());
+            parts.stamps[place] = numbers.of(&[0, 1, START, u32::MAX]);
         }
-        11 => lent.stamps.iter_mut().for_each(|stamp| *stamp = 0),
+        11 => parts.stamps.iter_mut().for_each(|stamp| *stamp = 0),
         12 => {
             let word = numbers.word();
-            spoil(numbers, &mut lent.index, word);
+            spoil(numbers, &mut parts.index, word);
         }
         _ => {
             // Words past the pair count, which no call reads.
             let words = [numbers.word(), numbers.word()];
-            let (from, to) = (pairs.min(lent.operators.len()), pairs.min(lent.rides.len()));
-            spoil(numbers, &mut lent.operators[from..], words[0]);
-            spoil(numbers, &mut lent.rides[to..], words[1]);
+            let (from, to) = (pairs.min(parts.operators.len()), pairs.min(parts.rides.len()));
+            spoil(numbers, &mut parts.operators[from..], words[0]);
+            spoil(numbers, &mut parts.rides[to..], words[1]);
         }
     }
 }
@@ -277,10 +274,10 @@ fn deliver<B: Board>(compared: &mut Compared<B>, numbers: &mut Numbers, board: &
         let count = 1 + numbers.below(rest.len().min(6));
         let (first, others) = rest.split_at(count);
         if numbers.one_in(6) && 0 < board.head.places() {
-            let whole = board.stamps.clone();
-            board.stamps.truncate(board.head.places() - 1);
+            let whole = board.parts.stamps.clone();
+            board.parts.stamps.truncate(board.head.places() - 1);
             compared.message(board, first[0]);
-            board.stamps = whole;
+            board.parts.stamps = whole;
         }
         if numbers.one_in(2) {
             for one in first {
@@ -314,24 +311,17 @@ pub fn delivery<B: Board>(compared: &mut Compared<B>, numbers: &mut Numbers, siz
         *entry = (one.stamp, one.kind).max(*entry);
     }
     let listed: Vec<(u16, u16)> = latest.iter().filter(|entry| entry.1 .1 == GRANT).map(|entry| *entry.0).collect();
-    let mut expected = built.clone();
-    expected.head.pairs = listed.len() as u16;
+    let Lent { mut head, mut parts } = built.clone();
+    head.pairs = listed.len() as u16;
     for (place, pair) in listed.iter().enumerate() {
-        (expected.operators[place], expected.rides[place]) = *pair;
+        (parts.operators[place], parts.rides[place]) = *pair;
     }
-    let head = expected.head;
-    reference::build(
-        head,
-        &mut expected.operators,
-        &mut expected.rides,
-        START,
-        &mut expected.stamps,
-        &mut expected.index,
-    );
-    expected.stamps[..head.places()].fill(0);
+    reference::build(head, &mut parts.lend(), START);
+    parts.stamps[..head.places()].fill(0);
     for ((operator, ride), (stamp, _)) in &latest {
-        expected.stamps[*operator as usize * m as usize + *ride as usize] = *stamp;
+        parts.stamps[*operator as usize * m as usize + *ride as usize] = *stamp;
     }
+    let expected = Lent { head, parts };
 
     for repeated in [false, true] {
         let mut board = built.clone();

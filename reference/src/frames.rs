@@ -1,7 +1,7 @@
 //! The streams of calls that are replayed, as README.md lays them out: what writes a frame, and what replays a stream
 //! and gives the line of text for each call.
 
-use crate::{Answer, Counts, Head, Message, Peeled};
+use crate::{Answer, Counts, Head, Lengths, Message, Parts, Peeled, Slices, Vectors};
 
 /// The most places of each part that a frame may lend.
 pub const PAIR_PLACES: usize = 12_300;
@@ -51,6 +51,21 @@ impl<T: Clone + Default> Part<T> {
     }
 }
 
+/// What a frame says of the parts of a board.
+pub type Framed = Parts<Part<u16>, Part<u32>>;
+
+impl Framed {
+    /// Lent as the call before left them.
+    pub fn kept(lengths: Lengths) -> Self {
+        Parts {
+            operators: Part::kept(lengths.operators),
+            rides: Part::kept(lengths.rides),
+            stamps: Part::kept(lengths.stamps),
+            index: Part::kept(lengths.index),
+        }
+    }
+}
+
 /// A word of a part, as the 16-bit words that stand for it in a frame.
 pub trait Word: Copy {
     fn put(self, frame: &mut Vec<u16>);
@@ -91,47 +106,11 @@ impl Word for u32 {
 /// One call, with all that it is lent.
 #[derive(Clone, Debug, PartialEq, Eq)]
 pub enum Call {
-    Build {
-        head: Head,
-        start: u32,
-        operators: Part<u16>,
-        rides: Part<u16>,
-        stamps: Part<u32>,
-        index: Part<u16>,
-    },
-    Query {
-        head: Head,
-        alpha: u16,
-        beta: u16,
-        index: Part<u16>,
-        marks: Part<u16>,
-    },
-    Peel {
-        head: Head,
-        alpha: u16,
-        beta: u16,
-        steps: u16,
-        operators: Part<u16>,
-        rides: Part<u16>,
-        marks: Part<u16>,
-    },
-    Message {
-        head: Head,
-        message: Message,
-        operators: Part<u16>,
-        rides: Part<u16>,
-        stamps: Part<u32>,
-        index: Part<u16>,
-    },
-    Messages {
-        head: Head,
-        messages: Vec<Message>,
-        operators: Part<u16>,
-        rides: Part<u16>,
-        stamps: Part<u32>,
-        index: Part<u16>,
-        answers: Part<u16>,
-    },
+    Build { head: Head, start: u32, parts: Framed },
+    Query { head: Head, alpha: u16, beta: u16, index: Part<u16>, marks: Part<u16> },
+    Peel { head: Head, alpha: u16, beta: u16, steps: u16, operators: Part<u16>, rides: Part<u16>, marks: Part<u16> },
+    Message { head: Head, message: Message, parts: Framed },
+    Messages { head: Head, messages: Vec<Message>, parts: Framed, answers: Part<u16> },
 }
 
 // Writing
@@ -159,19 +138,24 @@ fn put_part<T: Word>(frame: &mut Vec<u16>, part: &Part<T>) {
     }
 }
 
+fn put_parts(frame: &mut Vec<u16>, parts: &Framed) {
+    let Parts { operators, rides, stamps, index } = parts;
+    put_part(frame, operators);
+    put_part(frame, rides);
+    put_part(frame, stamps);
+    put_part(frame, index);
+}
+
 impl Call {
     /// The words of the call's frame, after the count.
     fn words(&self) -> Vec<u16> {
         let mut frame = Vec::new();
         match self {
-            Call::Build { head, start, operators, rides, stamps, index } => {
+            Call::Build { head, start, parts } => {
                 frame.push(BUILD);
                 put_head(&mut frame, *head);
                 start.put(&mut frame);
-                put_part(&mut frame, operators);
-                put_part(&mut frame, rides);
-                put_part(&mut frame, stamps);
-                put_part(&mut frame, index);
+                put_parts(&mut frame, parts);
             }
             Call::Query { head, alpha, beta, index, marks } => {
                 frame.push(QUERY);
@@ -188,26 +172,20 @@ impl Call {
                 put_part(&mut frame, rides);
                 put_part(&mut frame, marks);
             }
-            Call::Message { head, message, operators, rides, stamps, index } => {
+            Call::Message { head, message, parts } => {
                 frame.push(MESSAGE);
                 put_head(&mut frame, *head);
                 put_message(&mut frame, *message);
-                put_part(&mut frame, operators);
-                put_part(&mut frame, rides);
-                put_part(&mut frame, stamps);
-                put_part(&mut frame, index);
+                put_parts(&mut frame, parts);
             }
-            Call::Messages { head, messages, operators, rides, stamps, index, answers } => {
+            Call::Messages { head, messages, parts, answers } => {
                 frame.push(MESSAGES);
                 put_head(&mut frame, *head);
                 frame.push(messages.len() as u16);
                 for message in messages {
                     put_message(&mut frame, *message);
                 }
-                put_part(&mut frame, operators);
-                put_part(&mut frame, rides);
-                put_part(&mut frame, stamps);
-                put_part(&mut frame, index);
+                put_parts(&mut frame, parts);
                 put_part(&mut frame, answers);
             }
         }
@@ -233,15 +211,7 @@ pub fn write_end(stream: &mut Vec<u8>) {
 
 /// The calls that a stream is replayed on.
 pub trait Board {
-    fn build(
-        &mut self,
-        head: Head,
-        operators: &mut [u16],
-        rides: &mut [u16],
-        start: u32,
-        stamps: &mut [u32],
-        index: &mut [u16],
-    ) -> u16;
+    fn build(&mut self, head: Head, parts: &mut Slices, start: u32) -> u16;
     fn query(&mut self, head: Head, index: &[u16], alpha: u16, beta: u16, marks: &mut [u16]) -> Counts;
     #[allow(clippy::too_many_arguments)]
     fn peel(
@@ -254,42 +224,16 @@ pub trait Board {
         beta: u16,
         steps: u16,
     ) -> Peeled;
-    fn message(
-        &mut self,
-        head: &mut Head,
-        operators: &mut [u16],
-        rides: &mut [u16],
-        stamps: &mut [u32],
-        index: &mut [u16],
-        message: Message,
-    ) -> Answer;
-    #[allow(clippy::too_many_arguments)]
-    fn messages(
-        &mut self,
-        head: &mut Head,
-        operators: &mut [u16],
-        rides: &mut [u16],
-        stamps: &mut [u32],
-        index: &mut [u16],
-        messages: &[Message],
-        answers: &mut [u16],
-    ) -> u16;
+    fn message(&mut self, head: &mut Head, parts: &mut Slices, message: Message) -> Answer;
+    fn messages(&mut self, head: &mut Head, parts: &mut Slices, messages: &[Message], answers: &mut [u16]) -> u16;
 }
 
 /// The calls of this package.
 pub struct Reference;
 
 impl Board for Reference {
-    fn build(
-        &mut self,
-        head: Head,
-        operators: &mut [u16],
-        rides: &mut [u16],
-        start: u32,
-        stamps: &mut [u32],
-        index: &mut [u16],
-    ) -> u16 {
-        crate::build(head, operators, rides, start, stamps, index)
+    fn build(&mut self, head: Head, parts: &mut Slices, start: u32) -> u16 {
+        crate::build(head, parts, start)
     }
 
     fn query(&mut self, head: Head, index: &[u16], alpha: u16, beta: u16, marks: &mut [u16]) -> Counts {
@@ -309,52 +253,31 @@ impl Board for Reference {
         crate::peel(head, operators, rides, marks, alpha, beta, steps)
     }
 
-    fn message(
-        &mut self,
-        head: &mut Head,
-        operators: &mut [u16],
-        rides: &mut [u16],
-        stamps: &mut [u32],
-        index: &mut [u16],
-        message: Message,
-    ) -> Answer {
-        crate::message(head, operators, rides, stamps, index, message)
+    fn message(&mut self, head: &mut Head, parts: &mut Slices, message: Message) -> Answer {
+        crate::message(head, parts, message)
     }
 
-    fn messages(
-        &mut self,
-        head: &mut Head,
-        operators: &mut [u16],
-        rides: &mut [u16],
-        stamps: &mut [u32],
-        index: &mut [u16],
-        messages: &[Message],
-        answers: &mut [u16],
-    ) -> u16 {
-        crate::messages(head, operators, rides, stamps, index, messages, answers)
+    fn messages(&mut self, head: &mut Head, parts: &mut Slices, messages: &[Message], answers: &mut [u16]) -> u16 {
+        crate::messages(head, parts, messages, answers)
     }
 }
 
 /// The memory that calls are lent parts of. It stays from call to call.
 pub struct Memory {
-    pub operators: Vec<u16>,
-    pub rides: Vec<u16>,
-    pub stamps: Vec<u32>,
-    pub index: Vec<u16>,
+    pub parts: Vectors,
     pub marks: Vec<u16>,
     pub answers: Vec<u16>,
 }
 
 impl Default for Memory {
     fn default() -> Self {
-        Memory {
+        let parts = Parts {
             operators: vec![0; PAIR_PLACES],
             rides: vec![0; PAIR_PLACES],
             stamps: vec![0; PAIR_PLACES],
             index: vec![0; INDEX_PLACES],
-            marks: vec![0; MARK_PLACES],
-            answers: vec![0; ANSWER_PLACES],
-        }
+        };
+        Memory { parts, marks: vec![0; MARK_PLACES], answers: vec![0; ANSWER_PLACES] }
     }
 }
 
@@ -366,6 +289,15 @@ fn lend<'a, T: Word>(memory: &'a mut [T], part: &Part<T>) -> &'a mut [T] {
     }
     lent[part.from..part.from + part.words.len()].copy_from_slice(&part.words);
     lent
+}
+
+fn lend_parts<'a>(memory: &'a mut Vectors, parts: &Framed) -> Slices<'a> {
+    Parts {
+        operators: lend(&mut memory.operators, &parts.operators),
+        rides: lend(&mut memory.rides, &parts.rides),
+        stamps: lend(&mut memory.stamps, &parts.stamps),
+        index: lend(&mut memory.index, &parts.index),
+    }
 }
 
 /// What a call answered: its numbers, the first of them document 01's, and the checksum of all that it was lent.
@@ -392,53 +324,48 @@ fn head_checksum(head: Head) -> u64 {
     checksum(0, &[head.operators, head.rides, head.pairs])
 }
 
+fn parts_checksum(before: u64, parts: &Slices) -> u64 {
+    let Parts { operators, rides, stamps, index } = parts;
+    checksum(checksum(checksum(checksum(before, operators), rides), stamps), index)
+}
+
 impl Call {
     /// Makes the call. Gives what it answered, and the head that it left.
     pub fn run(&self, board: &mut impl Board, memory: &mut Memory) -> (Outcome, Head) {
         match self {
-            Call::Build { head, start, operators, rides, stamps, index } => {
-                let operators = lend(&mut memory.operators, operators);
-                let rides = lend(&mut memory.rides, rides);
-                let stamps = lend(&mut memory.stamps, stamps);
-                let index = lend(&mut memory.index, index);
-                let code = board.build(*head, operators, rides, *start, stamps, index);
-                let sum = checksum(checksum(checksum(checksum(0, operators), rides), stamps), index);
-                (Outcome { numbers: vec![code], checksum: sum }, *head)
+            Call::Build { head, start, parts } => {
+                let mut parts = lend_parts(&mut memory.parts, parts);
+                let code = board.build(*head, &mut parts, *start);
+                (Outcome { numbers: vec![code], checksum: parts_checksum(0, &parts) }, *head)
             }
             Call::Query { head, alpha, beta, index, marks } => {
-                let index = lend(&mut memory.index, index);
+                let index = lend(&mut memory.parts.index, index);
                 let marks = lend(&mut memory.marks, marks);
                 let counts = board.query(*head, index, *alpha, *beta, marks);
                 let numbers = vec![counts.code, counts.operators, counts.rides];
                 (Outcome { numbers, checksum: checksum(checksum(0, index), marks) }, *head)
             }
             Call::Peel { head, alpha, beta, steps, operators, rides, marks } => {
-                let operators = lend(&mut memory.operators, operators);
-                let rides = lend(&mut memory.rides, rides);
+                let operators = lend(&mut memory.parts.operators, operators);
+                let rides = lend(&mut memory.parts.rides, rides);
                 let marks = lend(&mut memory.marks, marks);
                 let peeled = board.peel(*head, operators, rides, marks, *alpha, *beta, *steps);
                 let numbers = vec![peeled.code, peeled.settled, peeled.steps];
                 (Outcome { numbers, checksum: checksum(checksum(checksum(0, operators), rides), marks) }, *head)
             }
-            Call::Message { head, message, operators, rides, stamps, index } => {
+            Call::Message { head, message, parts } => {
                 let mut head = *head;
-                let operators = lend(&mut memory.operators, operators);
-                let rides = lend(&mut memory.rides, rides);
-                let stamps = lend(&mut memory.stamps, stamps);
-                let index = lend(&mut memory.index, index);
-                let answer = board.message(&mut head, operators, rides, stamps, index, *message);
-                let sum = checksum(checksum(checksum(checksum(head_checksum(head), operators), rides), stamps), index);
+                let mut parts = lend_parts(&mut memory.parts, parts);
+                let answer = board.message(&mut head, &mut parts, *message);
+                let sum = parts_checksum(head_checksum(head), &parts);
                 (Outcome { numbers: vec![answer.code, answer.differ], checksum: sum }, head)
             }
-            Call::Messages { head, messages, operators, rides, stamps, index, answers } => {
+            Call::Messages { head, messages, parts, answers } => {
                 let mut head = *head;
-                let operators = lend(&mut memory.operators, operators);
-                let rides = lend(&mut memory.rides, rides);
-                let stamps = lend(&mut memory.stamps, stamps);
-                let index = lend(&mut memory.index, index);
+                let mut parts = lend_parts(&mut memory.parts, parts);
                 let answers = lend(&mut memory.answers, answers);
-                let code = board.messages(&mut head, operators, rides, stamps, index, messages, answers);
-                let sum = checksum(checksum(checksum(checksum(head_checksum(head), operators), rides), stamps), index);
+                let code = board.messages(&mut head, &mut parts, messages, answers);
+                let sum = parts_checksum(head_checksum(head), &parts);
                 (Outcome { numbers: vec![code], checksum: checksum(sum, answers) }, head)
             }
         }
@@ -483,20 +410,17 @@ impl<'a> Cursor<'a> {
         part
     }
 
+    fn parts(&mut self) -> Framed {
+        Parts { operators: self.part(), rides: self.part(), stamps: self.part(), index: self.part() }
+    }
+
     /// The next call, or none at the stream's end.
     pub fn call(&mut self) -> Option<Call> {
         if self.word() == 0 {
             return None;
         }
         Some(match self.word() {
-            BUILD => Call::Build {
-                head: self.head(),
-                start: u32::get(self),
-                operators: self.part(),
-                rides: self.part(),
-                stamps: self.part(),
-                index: self.part(),
-            },
+            BUILD => Call::Build { head: self.head(), start: u32::get(self), parts: self.parts() },
             QUERY => Call::Query {
                 head: self.head(),
                 alpha: self.word(),
@@ -513,26 +437,12 @@ impl<'a> Cursor<'a> {
                 rides: self.part(),
                 marks: self.part(),
             },
-            MESSAGE => Call::Message {
-                head: self.head(),
-                message: self.message(),
-                operators: self.part(),
-                rides: self.part(),
-                stamps: self.part(),
-                index: self.part(),
-            },
+            MESSAGE => Call::Message { head: self.head(), message: self.message(), parts: self.parts() },
             MESSAGES => {
                 let head = self.head();
                 let count = self.word();
-                Call::Messages {
-                    head,
-                    messages: (0..count).map(|_| self.message()).collect(),
-                    operators: self.part(),
-                    rides: self.part(),
-                    stamps: self.part(),
-                    index: self.part(),
-                    answers: self.part(),
-                }
+                let messages = (0..count).map(|_| self.message()).collect();
+                Call::Messages { head, messages, parts: self.parts(), answers: self.part() }
             }
             kind => panic!("a frame of kind {kind}"),
         })

@@ -16,6 +16,39 @@ pub struct Head {
     pub pairs: u16,
 }
 
+/// The parts of a board, in document 01's order: an `A` for each part of 16-bit words, a `B` for each of 32-bit words.
+#[derive(Clone, Debug, Default, PartialEq, Eq)]
+pub struct Parts<A, B> {
+    pub operators: A,
+    pub rides: A,
+    pub stamps: B,
+    pub index: A,
+}
+
+/// The parts as a call is lent them.
+pub type Slices<'a> = Parts<&'a mut [u16], &'a mut [u32]>;
+
+/// The parts in memory of their own.
+pub type Vectors = Parts<Vec<u16>, Vec<u32>>;
+
+/// The places of each part.
+pub type Lengths = Parts<usize, usize>;
+
+impl Vectors {
+    /// Lends every part in its whole length.
+    pub fn lend(&mut self) -> Slices<'_> {
+        let Parts { operators, rides, stamps, index } = self;
+        Parts { operators, rides, stamps, index }
+    }
+}
+
+impl Lengths {
+    /// What a function makes of each length, in the order of the parts.
+    pub fn map(self, mut to: impl FnMut(usize) -> usize) -> Self {
+        Parts { operators: to(self.operators), rides: to(self.rides), stamps: to(self.stamps), index: to(self.index) }
+    }
+}
+
 /// What a query answers: document 01's number, and how many operators and rides it marked.
 #[derive(Clone, Copy, Debug, PartialEq, Eq)]
 #[repr(C)]
@@ -70,6 +103,11 @@ impl Head {
     pub fn words(self) -> usize {
         self.rides as usize * self.nodes()
     }
+
+    /// The places that each part needs.
+    pub fn lengths(self) -> Lengths {
+        Parts { operators: self.places(), rides: self.places(), stamps: self.places(), index: self.words() }
+    }
 }
 
 /// The pairs that are listed, as a set.
@@ -80,6 +118,16 @@ type Pairs = BTreeSet<(u16, u16)>;
 /// The lowest number whose test applies, or 0. A test is tried only where none before it applies.
 fn lowest(tests: &[(u16, &dyn Fn() -> bool)]) -> u16 {
     tests.iter().find(|test| test.1()).map_or(0, |test| test.0)
+}
+
+/// Number 3 of a board: a part is shorter than needed.
+fn is_short(head: Head, parts: &Slices) -> bool {
+    let Parts { operators, rides, stamps, index } = parts;
+    let needed = head.lengths();
+    operators.len() < needed.operators
+        || rides.len() < needed.rides
+        || stamps.len() < needed.stamps
+        || index.len() < needed.index
 }
 
 /// Number 5: one of the listed pairs is out of range, or they are not strictly ascending.
@@ -188,48 +236,35 @@ fn index_of(head: Head, pairs: &Pairs) -> Vec<u16> {
 }
 
 /// Writes the pairs in ascending order, and zeros from there to the arrays' end.
-fn write_pairs(head: Head, pairs: &Pairs, operators: &mut [u16], rides: &mut [u16]) {
-    operators[..head.places()].fill(0);
-    rides[..head.places()].fill(0);
-    for (place, &(operator, ride)) in pairs.iter().enumerate() {
-        operators[place] = operator;
-        rides[place] = ride;
+fn write_pairs(head: Head, pairs: &Pairs, parts: &mut Slices) {
+    parts.operators[..head.places()].fill(0);
+    parts.rides[..head.places()].fill(0);
+    for (place, &pair) in pairs.iter().enumerate() {
+        (parts.operators[place], parts.rides[place]) = pair;
     }
 }
 
 // The calls
 
-pub fn build(
-    head: Head,
-    operators: &mut [u16],
-    rides: &mut [u16],
-    start: u32,
-    stamps: &mut [u32],
-    index: &mut [u16],
-) -> u16 {
+pub fn build(head: Head, parts: &mut Slices, start: u32) -> u16 {
     let code = lowest(&[
         (1, &|| head.operators > 200),
         (2, &|| head.rides > 60),
-        (3, &|| {
-            operators.len() < head.places()
-                || rides.len() < head.places()
-                || stamps.len() < head.places()
-                || index.len() < head.words()
-        }),
+        (3, &|| is_short(head, parts)),
         (4, &|| head.pairs as usize > head.places()),
-        (5, &|| disordered(head, operators, rides)),
+        (5, &|| disordered(head, parts.operators, parts.rides)),
         (9, &|| start == 0),
     ]);
     if code != 0 {
         return code;
     }
-    let pairs = listed(head, operators, rides);
-    write_pairs(head, &pairs, operators, rides);
-    stamps[..head.places()].fill(0);
+    let pairs = listed(head, parts.operators, parts.rides);
+    write_pairs(head, &pairs, parts);
+    parts.stamps[..head.places()].fill(0);
     for &(operator, ride) in &pairs {
-        stamps[stamp_place(head, operator, ride)] = start;
+        parts.stamps[stamp_place(head, operator, ride)] = start;
     }
-    index[..head.words()].copy_from_slice(&index_of(head, &pairs));
+    parts.index[..head.words()].copy_from_slice(&index_of(head, &pairs));
     0
 }
 
@@ -301,40 +336,21 @@ fn first_short(head: Head, clearances: &Clearances, marks: &[u16], alpha: usize,
 }
 
 /// The lowest of 1 to 6 that applies to a board that is lent to a message, or 0.
-fn board_refusal(
-    head: Head,
-    operators: &[u16],
-    rides: &[u16],
-    stamps: &[u32],
-    index: &[u16],
-    others_short: bool,
-) -> u16 {
+fn board_refusal(head: Head, parts: &Slices, others_short: bool) -> u16 {
+    let Parts { operators, rides, stamps, .. } = parts;
     lowest(&[
         (1, &|| head.operators > 200),
         (2, &|| head.rides > 60),
-        (3, &|| {
-            operators.len() < head.places()
-                || rides.len() < head.places()
-                || stamps.len() < head.places()
-                || index.len() < head.words()
-                || others_short
-        }),
+        (3, &|| is_short(head, parts) || others_short),
         (4, &|| head.pairs as usize > head.places()),
         (5, &|| disordered(head, operators, rides)),
         (6, &|| listed(head, operators, rides).iter().any(|&(o, r)| stamps[stamp_place(head, o, r)] == 0)),
     ])
 }
 
-pub fn message(
-    head: &mut Head,
-    operators: &mut [u16],
-    rides: &mut [u16],
-    stamps: &mut [u32],
-    index: &mut [u16],
-    message: Message,
-) -> Answer {
+pub fn message(head: &mut Head, parts: &mut Slices, message: Message) -> Answer {
     let sizes = *head;
-    let refusal = board_refusal(sizes, operators, rides, stamps, index, false);
+    let refusal = board_refusal(sizes, parts, false);
     let pair = (message.operator, message.ride);
     let code = lowest(&[
         (refusal, &|| refusal != 0),
@@ -342,26 +358,27 @@ pub fn message(
         (8, &|| message.operator >= sizes.operators || message.ride >= sizes.rides),
         (9, &|| message.stamp == 0),
         (10, &|| {
-            let last = stamps[stamp_place(sizes, pair.0, pair.1)];
-            let last_kind = if listed(sizes, operators, rides).contains(&pair) { GRANT } else { WITHDRAWAL };
+            let last = parts.stamps[stamp_place(sizes, pair.0, pair.1)];
+            let is_listed = listed(sizes, parts.operators, parts.rides).contains(&pair);
+            let last_kind = if is_listed { GRANT } else { WITHDRAWAL };
             last != 0 && !is_later((message.stamp, message.kind), (last, last_kind))
         }),
     ]);
     if code != 0 {
         return Answer { code, differ: 0 };
     }
-    let mut pairs = listed(sizes, operators, rides);
+    let mut pairs = listed(sizes, parts.operators, parts.rides);
     if message.kind == GRANT {
         pairs.insert(pair);
     } else {
         pairs.remove(&pair);
     }
-    stamps[stamp_place(sizes, pair.0, pair.1)] = message.stamp;
-    write_pairs(sizes, &pairs, operators, rides);
+    parts.stamps[stamp_place(sizes, pair.0, pair.1)] = message.stamp;
+    write_pairs(sizes, &pairs, parts);
     head.pairs = pairs.len() as u16;
     let levels = index_of(sizes, &pairs);
-    let differ = levels.iter().zip(&*index).filter(|(new, old)| new != old).count() as u16;
-    index[..sizes.words()].copy_from_slice(&levels);
+    let differ = levels.iter().zip(&*parts.index).filter(|(new, old)| new != old).count() as u16;
+    parts.index[..sizes.words()].copy_from_slice(&levels);
     Answer { code: 0, differ }
 }
 
@@ -371,21 +388,13 @@ fn is_later(first: (u32, u16), second: (u32, u16)) -> bool {
     first.0 > second.0 || (first.0 == second.0 && first.1 == WITHDRAWAL && second.1 == GRANT)
 }
 
-pub fn messages(
-    head: &mut Head,
-    operators: &mut [u16],
-    rides: &mut [u16],
-    stamps: &mut [u32],
-    index: &mut [u16],
-    messages: &[Message],
-    answers: &mut [u16],
-) -> u16 {
-    let code = board_refusal(*head, operators, rides, stamps, index, answers.len() < messages.len());
+pub fn messages(head: &mut Head, parts: &mut Slices, messages: &[Message], answers: &mut [u16]) -> u16 {
+    let code = board_refusal(*head, parts, answers.len() < messages.len());
     if code != 0 {
         return code;
     }
     for (place, one) in messages.iter().enumerate() {
-        answers[place] = message(head, operators, rides, stamps, index, *one).code;
+        answers[place] = message(head, parts, *one).code;
     }
     0
 }

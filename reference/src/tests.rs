@@ -5,50 +5,45 @@ use super::*;
 /// Memory for a board, longer by two places in each part than it needs.
 struct Store {
     head: Head,
-    operators: Vec<u16>,
-    rides: Vec<u16>,
-    stamps: Vec<u32>,
-    index: Vec<u16>,
+    parts: Vectors,
 }
 
 impl Store {
     fn new(operators: u16, rides: u16, pairs: &[(u16, u16)]) -> Self {
         let head = Head { operators, rides, pairs: pairs.len() as u16 };
-        let mut store = Store {
-            head,
-            operators: vec![7; head.places() + 2],
-            rides: vec![7; head.places() + 2],
-            stamps: vec![7; head.places() + 2],
-            index: vec![7; head.words() + 2],
+        let lengths = head.lengths().map(|needed| needed + 2);
+        let mut parts = Parts {
+            operators: vec![7; lengths.operators],
+            rides: vec![7; lengths.rides],
+            stamps: vec![7; lengths.stamps],
+            index: vec![7; lengths.index],
         };
         for (place, pair) in pairs.iter().enumerate() {
-            store.operators[place] = pair.0;
-            store.rides[place] = pair.1;
+            (parts.operators[place], parts.rides[place]) = *pair;
         }
-        store
+        Store { head, parts }
     }
 
     fn build(&mut self, start: u32) -> u16 {
-        build(self.head, &mut self.operators, &mut self.rides, start, &mut self.stamps, &mut self.index)
+        build(self.head, &mut self.parts.lend(), start)
     }
 
     fn query(&self, alpha: u16, beta: u16) -> (Counts, Vec<u16>) {
         let mut marks = vec![9; self.head.nodes()];
-        let counts = query(self.head, &self.index, alpha, beta, &mut marks);
+        let counts = query(self.head, &self.parts.index, alpha, beta, &mut marks);
         (counts, marks)
     }
 
     fn peel(&self, marks: &mut [u16], alpha: u16, beta: u16, steps: u16) -> Peeled {
-        peel(self.head, &self.operators, &self.rides, marks, alpha, beta, steps)
+        peel(self.head, &self.parts.operators, &self.parts.rides, marks, alpha, beta, steps)
     }
 
     fn message(&mut self, kind: u16, operator: u16, ride: u16, stamp: u32) -> Answer {
-        let one = Message { kind, operator, ride, stamp };
-        message(&mut self.head, &mut self.operators, &mut self.rides, &mut self.stamps, &mut self.index, one)
+        message(&mut self.head, &mut self.parts.lend(), Message { kind, operator, ride, stamp })
     }
 
     fn row(&self, alpha: usize) -> &[u16] {
-        &self.index[(alpha - 1) * self.head.nodes()..alpha * self.head.nodes()]
+        &self.parts.index[(alpha - 1) * self.head.nodes()..alpha * self.head.nodes()]
     }
 }
 
@@ -67,10 +62,10 @@ fn rows() {
     assert_eq!(board.row(1), [3, 3, 3, 2, 2, 3, 2]);
     assert_eq!(board.row(2), [2, 2, 1, 0, 2, 2, 1]);
     assert_eq!(board.row(3), [0; 7]);
-    assert_eq!(board.index[21..], [7, 7]);
-    assert_eq!(board.operators, [0, 0, 1, 1, 2, 2, 3, 0, 0, 0, 0, 0, 7, 7]);
-    assert_eq!(board.rides, [0, 1, 0, 1, 1, 2, 2, 0, 0, 0, 0, 0, 7, 7]);
-    assert_eq!(board.stamps, [1, 1, 0, 1, 1, 0, 0, 1, 1, 0, 0, 1, 7, 7]);
+    assert_eq!(board.parts.index[21..], [7, 7]);
+    assert_eq!(board.parts.operators, [0, 0, 1, 1, 2, 2, 3, 0, 0, 0, 0, 0, 7, 7]);
+    assert_eq!(board.parts.rides, [0, 1, 0, 1, 1, 2, 2, 0, 0, 0, 0, 0, 7, 7]);
+    assert_eq!(board.parts.stamps, [1, 1, 0, 1, 1, 0, 0, 1, 1, 0, 0, 1, 7, 7]);
 }
 
 #[test]
@@ -203,10 +198,10 @@ fn delivered_is_the_latest_of_each_pair() {
             let mut fresh = Store::new(2, 2, &listed);
             assert_eq!(fresh.build(start), 0);
             assert_eq!(board.head, fresh.head);
-            assert_eq!(board.operators, fresh.operators);
-            assert_eq!(board.rides, fresh.rides);
-            assert_eq!(board.index, fresh.index);
-            assert_eq!(board.stamps[..4], latest.map(|entry| entry.0));
+            assert_eq!(board.parts.operators, fresh.parts.operators);
+            assert_eq!(board.parts.rides, fresh.parts.rides);
+            assert_eq!(board.parts.index, fresh.parts.index);
+            assert_eq!(board.parts.stamps[..4], latest.map(|entry| entry.0));
         }
     }
 }
@@ -221,42 +216,13 @@ fn frames_are_read_as_written() {
     let given = Part::given(14, &[1, 65535], 256);
     let changed = Part::changed(21, 19, &[5, 6, 7]);
     let (stamps, index) = (Part::given(12, &[70_000, 1], 65_536), Part::filled(3, 1));
+    let parts = Parts { operators: kept.clone(), rides: given.clone(), stamps, index };
     let calls = [
-        Call::Build {
-            head,
-            start: 65_537,
-            operators: kept.clone(),
-            rides: given.clone(),
-            stamps: stamps.clone(),
-            index: index.clone(),
-        },
+        Call::Build { head, start: 65_537, parts: parts.clone() },
         Call::Query { head, alpha: 1, beta: 2, index: changed.clone(), marks: given.clone() },
-        Call::Peel {
-            head,
-            alpha: 1,
-            beta: 2,
-            steps: 3,
-            operators: given.clone(),
-            rides: kept.clone(),
-            marks: changed.clone(),
-        },
-        Call::Message {
-            head,
-            message: one,
-            operators: kept.clone(),
-            rides: kept.clone(),
-            stamps: stamps.clone(),
-            index: changed.clone(),
-        },
-        Call::Messages {
-            head,
-            messages: vec![one; 3],
-            operators: given.clone(),
-            rides: kept,
-            stamps,
-            index,
-            answers: given,
-        },
+        Call::Peel { head, alpha: 1, beta: 2, steps: 3, operators: given.clone(), rides: kept, marks: changed.clone() },
+        Call::Message { head, message: one, parts: Parts { index: changed, ..parts.clone() } },
+        Call::Messages { head, messages: vec![one; 3], parts, answers: given },
     ];
     let mut stream = Vec::new();
     calls.iter().for_each(|call| call.write(&mut stream));

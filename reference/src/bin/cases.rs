@@ -2,8 +2,9 @@
 //! `replay_deliveries` and `replay_cover` of the folder named by its first argument. The same seed gives the same files;
 //! a second argument is a seed other than that of the stored files.
 
-use reference::frames::{replay_cover, write_end, Call, Memory, Outcome, Part, Reference, INDEX_PLACES, PAIR_PLACES};
-use reference::{Head, Message, GRANT, WITHDRAWAL};
+use reference::frames::{replay_cover, write_end, Call, Framed, Memory, Outcome, Part, Reference};
+use reference::frames::{INDEX_PLACES, PAIR_PLACES};
+use reference::{Head, Lengths, Message, Parts, Vectors, GRANT, WITHDRAWAL};
 use std::collections::{BTreeMap, BTreeSet};
 use std::path::Path;
 
@@ -77,6 +78,11 @@ impl Random {
         needed + self.pick(&[0, 0, 1, 2, 5])
     }
 
+    /// For each part of a board a length that is at least the one needed.
+    fn lengths(&mut self, head: Head) -> Lengths {
+        head.lengths().map(|needed| self.length(needed))
+    }
+
     /// A length that is too short, where there is one.
     fn short(&mut self, needed: usize) -> usize {
         match needed {
@@ -139,37 +145,25 @@ impl Stream {
 
 // Boards, whole and damaged
 
+/// How many damages there are that 1 to 5 speak of.
+const DAMAGES: usize = 6;
+
 /// A board with what is lent of it, before damage is done to it.
 #[derive(Clone)]
 struct Draft {
     head: Head,
-    operators: Vec<u16>,
-    rides: Vec<u16>,
-    stamps: Vec<u32>,
-    index: Vec<u16>,
+    words: Vectors,
     /// What the places after the given words hold.
     others: u16,
-    operators_len: usize,
-    rides_len: usize,
-    stamps_len: usize,
-    index_len: usize,
+    lengths: Lengths,
 }
 
 impl Draft {
     fn new(random: &mut Random, operators: u16, rides: u16, pairs: &[Pair]) -> Self {
         let head = Head { operators, rides, pairs: pairs.len() as u16 };
-        Draft {
-            head,
-            operators: pairs.iter().map(|pair| pair.0).collect(),
-            rides: pairs.iter().map(|pair| pair.1).collect(),
-            stamps: Vec::new(),
-            index: Vec::new(),
-            others: random.word(),
-            operators_len: random.length(head.places()),
-            rides_len: random.length(head.places()),
-            stamps_len: random.length(head.places()),
-            index_len: random.length(head.words()),
-        }
+        let (operators, rides) = pairs.iter().copied().unzip();
+        let words = Vectors { operators, rides, ..Vectors::default() };
+        Draft { head, words, others: random.word(), lengths: random.lengths(head) }
     }
 
     /// A small board, at times with no operator or no ride, or with one row as long as it may be.
@@ -186,54 +180,23 @@ impl Draft {
         Self::new(random, operators, rides, &pairs)
     }
 
-    fn operators(&self) -> Part<u16> {
-        Part::given(self.operators_len.min(PAIR_PLACES), &self.operators, self.others)
-    }
-
-    fn rides(&self) -> Part<u16> {
-        Part::given(self.rides_len.min(PAIR_PLACES), &self.rides, self.others)
-    }
-
-    fn stamps(&self) -> Part<u32> {
-        Part::given(self.stamps_len.min(PAIR_PLACES), &self.stamps, self.others as u32 * 65_537)
-    }
-
-    fn index(&self) -> Part<u16> {
-        Part::given(self.index_len.min(INDEX_PLACES), &self.index, self.others)
+    fn parts(&self) -> Framed {
+        let Draft { words, others, lengths, .. } = self;
+        Parts {
+            operators: Part::given(lengths.operators.min(PAIR_PLACES), &words.operators, *others),
+            rides: Part::given(lengths.rides.min(PAIR_PLACES), &words.rides, *others),
+            stamps: Part::given(lengths.stamps.min(PAIR_PLACES), &words.stamps, *others as u32 * 65_537),
+            index: Part::given(lengths.index.min(INDEX_PLACES), &words.index, *others),
+        }
     }
 
     fn build(&self, start: u32) -> Call {
-        Call::Build {
-            head: self.head,
-            start,
-            operators: self.operators(),
-            rides: self.rides(),
-            stamps: self.stamps(),
-            index: self.index(),
-        }
+        Call::Build { head: self.head, start, parts: self.parts() }
     }
 
-    fn message(&self, message: Message) -> Call {
-        Call::Message {
-            head: self.head,
-            message,
-            operators: self.operators(),
-            rides: self.rides(),
-            stamps: self.stamps(),
-            index: self.index(),
-        }
-    }
-
-    fn messages(&self, messages: &[Message], answers: Part<u16>) -> Call {
-        Call::Messages {
-            head: self.head,
-            messages: messages.to_vec(),
-            operators: self.operators(),
-            rides: self.rides(),
-            stamps: self.stamps(),
-            index: self.index(),
-            answers,
-        }
+    fn peel(&self, alpha: u16, beta: u16, steps: u16, marks: Part<u16>) -> Call {
+        let Parts { operators, rides, .. } = self.parts();
+        Call::Peel { head: self.head, alpha, beta, steps, operators, rides, marks }
     }
 
     /// A size above its bound. The parts may be lent as long as that size would need.
@@ -255,18 +218,15 @@ impl Draft {
     }
 
     fn lengthen(&mut self) {
-        self.operators_len = self.head.places();
-        self.rides_len = self.head.places();
-        self.stamps_len = self.head.places();
-        self.index_len = self.head.words();
+        self.lengths = self.head.lengths();
     }
 
     /// A part of the pair arrays that is too short.
     fn shorten_pairs(&mut self, random: &mut Random) {
         if random.one_in(2) {
-            self.operators_len = random.short(self.head.places());
+            self.lengths.operators = random.short(self.head.places());
         } else {
-            self.rides_len = random.short(self.head.places());
+            self.lengths.rides = random.short(self.head.places());
         }
     }
 
@@ -277,7 +237,8 @@ impl Draft {
 
     /// A pair out of range, a pair twice, two pairs or two rides in the wrong order, or more pairs counted than given.
     fn disorder(&mut self, random: &mut Random) {
-        let count = self.operators.len();
+        let Vectors { operators, rides, .. } = &mut self.words;
+        let count = operators.len();
         if count == 0 || random.one_in(8) {
             self.head.pairs = self.head.pairs.saturating_add(1);
             return;
@@ -285,18 +246,30 @@ impl Draft {
         let place = random.below(count);
         let next = (place + 1).min(count - 1);
         match random.below(6) {
-            0 => self.operators[place] = random.pick(&[self.head.operators, self.head.operators, 65_535]),
-            1 => self.rides[place] = random.pick(&[self.head.rides, self.head.rides, 65_535]),
+            0 => operators[place] = random.pick(&[self.head.operators, self.head.operators, 65_535]),
+            1 => rides[place] = random.pick(&[self.head.rides, self.head.rides, 65_535]),
             2 => {
-                self.operators[next] = self.operators[place];
-                self.rides[next] = self.rides[place];
+                operators[next] = operators[place];
+                rides[next] = rides[place];
             }
-            3 => self.rides.swap(place, next),
+            3 => rides.swap(place, next),
             4 => {
-                self.operators.swap(place, next);
-                self.rides.swap(place, next);
+                operators.swap(place, next);
+                rides.swap(place, next);
             }
-            _ => self.operators[count - 1] = 0,
+            _ => operators[count - 1] = 0,
+        }
+    }
+
+    /// Does one of the damages that 1 to 5 speak of, by its number below `DAMAGES`.
+    fn damage(&mut self, random: &mut Random, which: usize) {
+        match which {
+            0 => self.oversize(random),
+            1 => self.shorten_pairs(random),
+            2 => self.lengths.stamps = random.short(self.head.places()),
+            3 => self.lengths.index = random.short(self.head.words()),
+            4 => self.too_many_pairs(random),
+            _ => self.disorder(random),
         }
     }
 }
@@ -326,14 +299,9 @@ fn build_case(random: &mut Random) -> Call {
     let mut draft = Draft::small(random);
     let mut start = random.pick(&[1, 1, 2, 5, 65_535, 65_536, 4_294_967_295]);
     for _ in 0..faults(random) {
-        match random.below(7) {
-            0 => draft.oversize(random),
-            1 => draft.shorten_pairs(random),
-            2 => draft.stamps_len = random.short(draft.head.places()),
-            3 => draft.index_len = random.short(draft.head.words()),
-            4 => draft.too_many_pairs(random),
-            5 => draft.disorder(random),
-            _ => start = 0,
+        match random.below(DAMAGES + 1) {
+            DAMAGES => start = 0,
+            which => draft.damage(random, which),
         }
     }
     draft.build(start)
@@ -344,22 +312,20 @@ fn index_words(random: &mut Random, draft: &Draft) -> Vec<u16> {
     match random.below(3) {
         0 => (0..draft.head.words()).map(|_| random.below(6) as u16).collect(),
         1 => (0..draft.head.words()).map(|_| random.word()).collect(),
-        _ => built(draft).0,
+        _ => built(draft).index,
     }
 }
 
-/// What a build of a draft that is not damaged leaves: the index and the stamps.
-fn built(draft: &Draft) -> (Vec<u16>, Vec<u32>) {
+/// What a build of a draft that is not damaged leaves.
+fn built(draft: &Draft) -> Vectors {
     let mut memory = Memory::default();
     draft.build(1).run(&mut Reference, &mut memory);
-    memory.index.truncate(draft.head.words());
-    memory.stamps.truncate(draft.head.places());
-    (memory.index, memory.stamps)
+    board_words(&memory, draft.head)
 }
 
 fn query_case(random: &mut Random) -> Call {
     let mut draft = Draft::small(random);
-    draft.index = index_words(random, &draft);
+    draft.words.index = index_words(random, &draft);
     let nodes = draft.head.nodes();
     let mut marks = Part::filled(random.length(nodes), random.word());
     let mut alpha = limit(random, draft.head.rides);
@@ -373,14 +339,13 @@ fn query_case(random: &mut Random) -> Call {
                 draft.oversize(random);
                 marks.len = draft.head.nodes().min(265);
             }
-            1 => draft.index_len = random.short(draft.head.words()).min(20),
+            1 => draft.lengths.index = random.short(draft.head.words()).min(20),
             2 => marks.len = random.short(nodes),
             3 => alpha = 0,
             _ => beta = 0,
         }
     }
-    let index = draft.index();
-    Call::Query { head: draft.head, alpha, beta, index, marks }
+    Call::Query { head: draft.head, alpha, beta, index: draft.parts().index, marks }
 }
 
 fn peel_case(random: &mut Random) -> Call {
@@ -415,15 +380,7 @@ fn peel_case(random: &mut Random) -> Call {
             }
         }
     }
-    Call::Peel {
-        head: draft.head,
-        alpha,
-        beta,
-        steps,
-        operators: draft.operators(),
-        rides: draft.rides(),
-        marks: Part::given(marks_len, &words, random.word()),
-    }
+    draft.peel(alpha, beta, steps, Part::given(marks_len, &words, random.word()))
 }
 
 /// A message for a board of these sizes, mostly a valid one. Stamps are few, so that many are equal.
@@ -457,46 +414,39 @@ fn some_message(random: &mut Random, head: Head, start: u32) -> Message {
 /// A board that a message may find: stamps of its own, and an index that need not be that of the pairs.
 fn found_board(random: &mut Random) -> Draft {
     let mut draft = Draft::small(random);
-    let (index, stamps) = built(&draft);
-    draft.index = index;
+    let Vectors { mut stamps, mut index, .. } = built(&draft);
     match random.below(4) {
-        0 => draft.index.iter_mut().for_each(|word| *word = random.word()),
-        1 => draft.index.iter_mut().for_each(|word| {
+        0 => index.iter_mut().for_each(|word| *word = random.word()),
+        1 => index.iter_mut().for_each(|word| {
             if random.one_in(5) {
                 *word = random.below(5) as u16;
             }
         }),
         _ => {}
     }
-    draft.stamps = stamps;
-    for stamp in &mut draft.stamps {
+    for stamp in &mut stamps {
         *stamp = if *stamp == 0 {
             random.pick(&[0, 0, 0, 1, 2, 4_294_967_295])
         } else {
             random.pick(&[1, 2, 3, 4, 4_294_967_295])
         };
     }
+    (draft.words.stamps, draft.words.index) = (stamps, index);
     draft
 }
 
 /// Does one of the damages that 1 to 6 speak of to a board that is lent to a message.
 fn damage_board(random: &mut Random, draft: &mut Draft) {
-    match random.below(7) {
-        0 => draft.oversize(random),
-        1 => draft.shorten_pairs(random),
-        2 => draft.stamps_len = random.short(draft.head.places()),
-        3 => draft.index_len = random.short(draft.head.words()),
-        4 => draft.too_many_pairs(random),
-        5 => draft.disorder(random),
-        _ => {
-            let count = draft.operators.len();
-            if count > 0 && draft.operators.iter().all(|operator| *operator < 200) {
-                let place = random.below(count);
-                let at = draft.operators[place] as usize * draft.head.rides as usize + draft.rides[place] as usize;
-                if at < draft.stamps.len() {
-                    draft.stamps[at] = 0;
-                }
-            }
+    let which = random.below(DAMAGES + 1);
+    if which < DAMAGES {
+        return draft.damage(random, which);
+    }
+    let Vectors { operators, rides, stamps, .. } = &mut draft.words;
+    if !operators.is_empty() && operators.iter().all(|operator| *operator < 200) {
+        let place = random.below(operators.len());
+        let at = operators[place] as usize * draft.head.rides as usize + rides[place] as usize;
+        if at < stamps.len() {
+            stamps[at] = 0;
         }
     }
 }
@@ -507,7 +457,7 @@ fn message_case(random: &mut Random) -> Call {
     for _ in 0..faults(random) {
         damage_board(random, &mut draft);
     }
-    draft.message(message)
+    Call::Message { head: draft.head, message, parts: draft.parts() }
 }
 
 fn messages_case(random: &mut Random) -> Call {
@@ -522,7 +472,8 @@ fn messages_case(random: &mut Random) -> Call {
             damage_board(random, &mut draft);
         }
     }
-    draft.messages(&messages, Part::filled(answers_len, random.word()))
+    let answers = Part::filled(answers_len, random.word());
+    Call::Messages { head: draft.head, messages, parts: draft.parts(), answers }
 }
 
 // Calls on a board that stays
@@ -553,67 +504,30 @@ fn all_ones(random: &mut Random, head: Head) -> Part<u16> {
     Part::filled(random.length(head.nodes()), 1)
 }
 
-/// How a board that stays is lent to a call.
-struct Lent {
-    operators: Part<u16>,
-    rides: Part<u16>,
-    stamps: Part<u32>,
-    index: Part<u16>,
+/// A board that stays, lent in its whole length.
+fn whole_parts(random: &mut Random, head: Head) -> Framed {
+    Framed::kept(random.lengths(head))
 }
 
-impl Lent {
-    fn whole(random: &mut Random, head: Head) -> Self {
-        Lent {
-            operators: Part::kept(random.length(head.places())),
-            rides: Part::kept(random.length(head.places())),
-            stamps: Part::kept(random.length(head.places())),
-            index: Part::kept(random.length(head.words())),
-        }
+/// One of the parts is lent too short.
+fn short_parts(random: &mut Random, head: Head) -> Framed {
+    let mut parts = whole_parts(random, head);
+    match random.below(4) {
+        0 => parts.operators.len = random.short(head.places()),
+        1 => parts.rides.len = random.short(head.places()),
+        2 => parts.stamps.len = random.short(head.places()),
+        _ => parts.index.len = random.short(head.words()),
     }
+    parts
+}
 
-    /// One of the parts is lent too short.
-    fn short(random: &mut Random, head: Head) -> Self {
-        let mut lent = Self::whole(random, head);
-        match random.below(4) {
-            0 => lent.operators.len = random.short(head.places()),
-            1 => lent.rides.len = random.short(head.places()),
-            2 => lent.stamps.len = random.short(head.places()),
-            _ => lent.index.len = random.short(head.words()),
-        }
-        lent
-    }
-
-    /// Some words of the index are other than they were.
-    fn changed(random: &mut Random, head: Head) -> Self {
-        let mut lent = Self::whole(random, head);
-        let count = 1 + random.below(head.words());
-        let words: Vec<u16> = (0..count.min(20)).map(|_| random.below(4) as u16).collect();
-        lent.index = Part::changed(lent.index.len, random.below(head.words()), &words);
-        lent
-    }
-
-    fn message(self, head: Head, message: Message) -> Call {
-        Call::Message {
-            head,
-            message,
-            operators: self.operators,
-            rides: self.rides,
-            stamps: self.stamps,
-            index: self.index,
-        }
-    }
-
-    fn messages(self, head: Head, messages: &[Message], answers: Part<u16>) -> Call {
-        Call::Messages {
-            head,
-            messages: messages.to_vec(),
-            operators: self.operators,
-            rides: self.rides,
-            stamps: self.stamps,
-            index: self.index,
-            answers,
-        }
-    }
+/// Some words of the index are other than they were.
+fn changed_parts(random: &mut Random, head: Head) -> Framed {
+    let mut parts = whole_parts(random, head);
+    let count = 1 + random.below(head.words());
+    let words: Vec<u16> = (0..count.min(20)).map(|_| random.below(4) as u16).collect();
+    parts.index = Part::changed(parts.index.len, random.below(head.words()), &words);
+    parts
 }
 
 /// What may happen between two deliveries.
@@ -627,14 +541,14 @@ enum Between {
 }
 
 /// The words of a board, to the lengths of document 01's layout.
-fn board_words(memory: &Memory, head: Head) -> (Head, Vec<u16>, Vec<u16>, Vec<u32>, Vec<u16>) {
-    (
-        head,
-        memory.operators[..head.places()].to_vec(),
-        memory.rides[..head.places()].to_vec(),
-        memory.stamps[..head.places()].to_vec(),
-        memory.index[..head.words()].to_vec(),
-    )
+fn board_words(memory: &Memory, head: Head) -> Vectors {
+    let (parts, lengths) = (&memory.parts, head.lengths());
+    Parts {
+        operators: parts.operators[..lengths.operators].to_vec(),
+        rides: parts.rides[..lengths.rides].to_vec(),
+        stamps: parts.stamps[..lengths.stamps].to_vec(),
+        index: parts.index[..lengths.index].to_vec(),
+    }
 }
 
 /// Delivers messages in the order given to the board that a build left, cut into calls at random. Gives the head that
@@ -654,14 +568,14 @@ fn deliver(
             interrupt(random, stream, head, rest);
         }
         let changes = between == Between::IndexChanges && random.one_in(3);
-        let lent = if changes { Lent::changed(random, head) } else { Lent::whole(random, head) };
+        let parts = if changes { changed_parts(random, head) } else { whole_parts(random, head) };
         if random.one_in(3) {
-            head = stream.call(lent.message(head, rest[0])).1;
+            head = stream.call(Call::Message { head, message: rest[0], parts }).1;
             rest = &rest[1..];
         } else {
             let count = random.below(rest.len().min(most) + 1);
             let answers = Part::filled(random.length(count), random.word());
-            head = stream.call(lent.messages(head, &rest[..count], answers)).1;
+            head = stream.call(Call::Messages { head, messages: rest[..count].to_vec(), parts, answers }).1;
             rest = &rest[count..];
         }
     }
@@ -671,15 +585,19 @@ fn deliver(
 /// A call that leaves the board: one that is lent too little, a query or a peel.
 fn interrupt(random: &mut Random, stream: &mut Stream, head: Head, rest: &[Message]) {
     let count = rest.len().min(4);
-    let lent = Lent::short(random, head);
+    let messages = rest[..count].to_vec();
+    let parts = short_parts(random, head);
     let alpha = limit(random, head.rides);
     let beta = limit(random, head.operators);
     let call = match random.below(5) {
-        0 => lent.message(head, rest[0]),
-        1 => lent.messages(head, &rest[..count], Part::filled(random.length(count), random.word())),
+        0 => Call::Message { head, message: rest[0], parts },
+        1 => {
+            let answers = Part::filled(random.length(count), random.word());
+            Call::Messages { head, messages, parts, answers }
+        }
         2 => {
             let answers = Part::filled(random.short(count), random.word());
-            Lent::whole(random, head).messages(head, &rest[..count], answers)
+            Call::Messages { head, messages, parts: whole_parts(random, head), answers }
         }
         3 => kept_query(random, head, alpha, beta),
         _ => {
@@ -708,7 +626,7 @@ fn delivery_case(random: &mut Random, stream: &mut Stream) {
         random.shuffle(&mut messages);
         stream.call(draft.build(start));
         let head = deliver(random, stream, draft.head, &messages, 64, between);
-        left.insert(format!("{:?}", board_words(&stream.memory, head)));
+        left.insert(format!("{:?}", (head, board_words(&stream.memory, head))));
     }
     assert_eq!(left.len(), 1, "two orders of delivery leave one board");
     if random.one_in(4) {
@@ -806,30 +724,21 @@ fn large_refusals(random: &mut Random, stream: &mut Stream) {
     for damage in 0..8 {
         let mut draft = Draft::new(random, 200, 60, &pairs);
         match damage {
-            0 => draft.operators[899] = 200,
-            1 => draft.rides[450] = 60,
-            2 => draft.operators_len = 11_999,
-            3 => draft.rides_len = 11_999,
-            4 => draft.stamps_len = 11_999,
-            5 => draft.index_len = 15_599,
+            0 => draft.words.operators[899] = 200,
+            1 => draft.words.rides[450] = 60,
+            2 => draft.lengths.operators = 11_999,
+            3 => draft.lengths.rides = 11_999,
+            4 => draft.lengths.stamps = 11_999,
+            5 => draft.lengths.index = 15_599,
             6 => draft.head.pairs = 12_001,
             _ => {
-                draft.operators[899] = draft.operators[898];
-                draft.rides[899] = draft.rides[898];
+                draft.words.operators[899] = draft.words.operators[898];
+                draft.words.rides[899] = draft.words.rides[898];
             }
         }
         stream.call(draft.build(1));
         let marks = all_ones(random, draft.head);
-        let peel = Call::Peel {
-            head: draft.head,
-            alpha: 1,
-            beta: 1,
-            steps: 65_535,
-            operators: draft.operators(),
-            rides: draft.rides(),
-            marks,
-        };
-        stream.call(peel);
+        stream.call(draft.peel(1, 1, 65_535, marks));
     }
 }
 
@@ -873,7 +782,7 @@ fn cover_case(random: &mut Random) -> Vec<u8> {
             _ => length_off = random.pick(&[-1, 1, -2, 2, -4, 4, 3, -3, 100, -1000]),
         }
     }
-    let pairs: Vec<Pair> = draft.operators.iter().copied().zip(draft.rides.iter().copied()).collect();
+    let pairs: Vec<Pair> = draft.words.operators.into_iter().zip(draft.words.rides).collect();
     let mut input = cover_input(draft.head, &pairs, alpha, beta);
     let length = input.len().saturating_add_signed(length_off);
     input.resize(length, 1);
