@@ -4,29 +4,9 @@ ghost use Prim.Native.Nat.{_+_, _*_, _≤_};
 ghost use lib.Dec.{leb};
 ghost use lib.ListN.{length};
 ghost use Rattle.model.specs.Count.{count};
-ghost use Rattle.text.specs.Text.{first-line, node-line, member-lines, member-line, report-text};
+ghost use Rattle.text.specs.Text.{member-lines, member-line, report-text};
 ghost use Rattle.text.specs.Write.{Wrote};
 ghost use Rattle.lines.specs.Members.{level-at, member-at};
-
-fn put_first(out: &mut [u8], at: usize, alpha: u16, beta: u16, operators: u16, rides: u16) -> usize
-    requires { ⌜ at + 30 ≤ length (now out) ⌝ }
-    ensures { λ r. ⌜ Wrote (now (out .entry)) at (first-line alpha beta operators rides) 30 (now (out .exit)) r ⌝ }
-{
-    let named = text::put_bytes(out, at, b"cover ");
-    let first = text::put_field(out, named, alpha, b' ');
-    let second = text::put_field(out, first, beta, b' ');
-    let third = text::put_field(out, second, operators, b' ');
-    text::put_field(out, third, rides, b'\n')
-}
-
-fn put_node(out: &mut [u8], at: usize, name: &[u8], number: u16, level: u16) -> usize
-    requires { ⌜ (length (now name) ≤ 9) × (at + 21 ≤ length (now out)) ⌝ }
-    ensures { λ r. ⌜ Wrote (now (out .entry)) at (node-line (now (name .entry)) number level) 21 (now (out .exit)) r ⌝ }
-{
-    let named = text::put_bytes(out, at, name);
-    let numbered = text::put_field(out, named, number, b' ');
-    text::put_field(out, numbered, level, b'\n')
-}
 
 // A node is in the cover exactly if its level is at least β.
 fn put_member(out: &mut [u8], at: usize, name: &[u8], number: u16, level: u16, beta: u16) -> usize
@@ -34,7 +14,7 @@ fn put_member(out: &mut [u8], at: usize, name: &[u8], number: u16, level: u16, b
     ensures { λ r. ⌜ Wrote (now (out .entry)) at (member-line (now (name .entry)) (leb beta level) number level) 21 (now (out .exit)) r ⌝ }
 {
     if beta <= level {
-        return put_node(out, at, name, number, level);
+        return text::put_node(out, at, name, number, level);
     }
     at
 }
@@ -102,7 +82,7 @@ pub fn put_cover(
     let m = rides as usize;
     let operator_count = count_members(levels, 0, n, beta);
     let ride_count = count_members(levels, n, m, beta);
-    let first = put_first(out, at, alpha, beta, operator_count, ride_count);
+    let first = text::put_first(out, at, alpha, beta, operator_count, ride_count);
     let second = put_members(out, first, b"operator ", levels, 0, n, beta);
     put_members(out, second, b"ride ", levels, n, m, beta)
 }

@@ -1,9 +1,9 @@
--- `lines::put_first` meets its contract. Assumes nothing.
+-- `text::put_first` meets its contract. Assumes nothing.
 use borrow.Author.Needs.{needs}
 use Rattle.text.specs.Text.{first-line}
 use Rattle.text.proofs.Write.{wrote-append}
-use Rattle.lines.proofs.put_first.Statement.{statement}
-use Rattle.lines.proofs.put_first.Tie as tie
+use Rattle.text.proofs.put_first.Statement.{statement}
+use Rattle.text.proofs.put_first.Tie as tie
 
 slice-aggregate-put-bytes : tie.Need-slice-aggregate-put-bytes
 slice-aggregate-put-bytes c = search needs

@@ -1,10 +1,10 @@
--- `lines::put_node` meets its contract. Assumes nothing.
+-- `text::put_node` meets its contract. Assumes nothing.
 use borrow.Author.Needs.{needs}
 use native.Mathlib.Omega.{arith}
 use Rattle.text.specs.Text.{node-line}
 use Rattle.text.proofs.Write.{wrote-append, wrote-most}
-use Rattle.lines.proofs.put_node.Statement.{statement}
-use Rattle.lines.proofs.put_node.Tie as tie
+use Rattle.text.proofs.put_node.Statement.{statement}
+use Rattle.text.proofs.put_node.Tie as tie
 
 put-bytes-requires : tie.Need-put-bytes-requires
 put-bytes-requires c κs = search needs
