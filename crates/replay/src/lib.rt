@@ -13,11 +13,11 @@ fn build(
     let start = frames::long(frame, 4);
     let code = board::board_build(
         head(frame),
-        frames::first(operators, lent.operators),
-        frames::first(rides, lent.rides),
+        lent_parts::first(operators, lent.operators),
+        lent_parts::first(rides, lent.rides),
         start,
-        frames::first_longs(stamps, lent.stamps),
-        frames::first(index, lent.index),
+        lent_parts::first_longs(stamps, lent.stamps),
+        lent_parts::first(index, lent.index),
     );
     frames::print(code);
     0

@@ -17,7 +17,7 @@ pub fn head(frame: &[u8]) -> Head {
 // The checksum of a frame's head, with so many pairs by now.
 pub fn head_checksum(frame: &[u8], pairs: u16) -> u64 {
     let words = [frames::word(frame, 1), frames::word(frame, 2), pairs];
-    frames::checksum(0, 3, &words)
+    lent_parts::checksum(0, 3, &words)
 }
 
 // How many places of each part a call lends.
@@ -41,12 +41,12 @@ pub fn checksum(
     marks: &[u16; 270],
     answers: &[u16; 70],
 ) -> u64 {
-    let o = frames::checksum(head, lent.operators, operators);
-    let r = frames::checksum(o, lent.rides, rides);
-    let s = frames::checksum_longs(r, lent.stamps, stamps);
-    let i = frames::checksum(s, lent.index, index);
-    let m = frames::checksum(i, lent.marks, marks);
-    frames::checksum(m, lent.answers, answers)
+    let o = lent_parts::checksum(head, lent.operators, operators);
+    let r = lent_parts::checksum(o, lent.rides, rides);
+    let s = lent_parts::checksum_longs(r, lent.stamps, stamps);
+    let i = lent_parts::checksum(s, lent.index, index);
+    let m = lent_parts::checksum(i, lent.marks, marks);
+    lent_parts::checksum(m, lent.answers, answers)
 }
 
 // Where the parts of a call begin in its frame.
@@ -72,12 +72,12 @@ pub fn load(
 ) -> Lent {
     let kind = frames::word(frame, 0);
     let marked = kind == 2 || kind == 3;
-    let o = frames::load(frame, parts_at(frame), kind != 2, operators);
-    let r = frames::load(frame, o.next, kind != 2, rides);
-    let s = frames::load_longs(frame, r.next, !marked, stamps);
-    let i = frames::load(frame, s.next, kind != 3, index);
-    let m = frames::load(frame, i.next, marked, marks);
-    let a = frames::load(frame, m.next, kind == 5, answers);
+    let o = lent_parts::load(frame, parts_at(frame), kind != 2, operators);
+    let r = lent_parts::load(frame, o.next, kind != 2, rides);
+    let s = lent_parts::load_longs(frame, r.next, !marked, stamps);
+    let i = lent_parts::load(frame, s.next, kind != 3, index);
+    let m = lent_parts::load(frame, i.next, marked, marks);
+    let a = lent_parts::load(frame, m.next, kind == 5, answers);
     Lent {
         operators: o.places,
         rides: r.places,

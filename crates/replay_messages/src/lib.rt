@@ -38,10 +38,10 @@ pub fn message(
         frame,
         4,
         frames::word(frame, 3),
-        frames::first(operators, lent.operators),
-        frames::first(rides, lent.rides),
-        frames::first_longs(stamps, lent.stamps),
-        frames::first(index, lent.index),
+        lent_parts::first(operators, lent.operators),
+        lent_parts::first(rides, lent.rides),
+        lent_parts::first_longs(stamps, lent.stamps),
+        lent_parts::first(index, lent.index),
     );
     frames::print(delivered.code);
     frames::print(delivered.differ);
@@ -62,7 +62,7 @@ fn deliver_all(
     let mut at = 5;
     for i in 0..count {
         let delivered = deliver_at(frame, at, pairs, operators, rides, stamps, index);
-        frames::store(answers, i, delivered.code);
+        lent_parts::store(answers, i, delivered.code);
         pairs = delivered.pairs;
         at = frames::past(at, 5);
     }
@@ -111,11 +111,11 @@ pub fn list(
 ) -> u64 {
     let pairs = deliver_list(
         frame,
-        frames::first(operators, lent.operators),
-        frames::first(rides, lent.rides),
-        frames::first_longs(stamps, lent.stamps),
-        frames::first(index, lent.index),
-        frames::first(answers, lent.answers),
+        lent_parts::first(operators, lent.operators),
+        lent_parts::first(rides, lent.rides),
+        lent_parts::first_longs(stamps, lent.stamps),
+        lent_parts::first(index, lent.index),
+        lent_parts::first(answers, lent.answers),
     );
     replay_memory::head_checksum(frame, pairs)
 }

@@ -1,8 +1,8 @@
 -- `sum` is safe and ends: i goes up to the count of places. Assumes nothing.
 use Prim.Native.Nat.{_-_}
 use borrow.Author.Needs.{needs}
-use Rattle.frames.proofs.sum.Statement.{statement}
-use Rattle.frames.proofs.sum.Tie as tie
+use Rattle.lent_parts.proofs.sum.Statement.{statement}
+use Rattle.lent_parts.proofs.sum.Tie as tie
 
 abbrev Inv-loop : tie.InvT-loop
 Inv-loop sum places words longs h₀ i₀ h i = Unit

@@ -3,8 +3,8 @@ use Prim.Native.Nat.{_-_}
 use mathlib.Core.Path.{_≡_}
 use lib.ListN.{length}
 use borrow.Author.Needs.{needs}
-use Rattle.frames.proofs.set.Statement.{statement}
-use Rattle.frames.proofs.set.Tie as tie
+use Rattle.lent_parts.proofs.set.Statement.{statement}
+use Rattle.lent_parts.proofs.set.Tie as tie
 
 abbrev Inv-loop : tie.InvT-loop
 Inv-loop frame run words₀ longs₀ at₀ i₀ i-end words longs at i = (length words ≡ length words₀) × (length longs ≡ length longs₀)
