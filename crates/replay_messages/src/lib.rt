@@ -26,7 +26,7 @@ fn deliver_at(
     messages::deliver(now, message_at(frame, at), operators, rides, stamps, index)
 }
 
-pub fn message(
+fn message(
     frame: &[u8],
     lent: Lent,
     operators: &mut [u16],
@@ -100,7 +100,7 @@ fn deliver_list(
     )
 }
 
-pub fn list(
+fn list(
     frame: &[u8],
     lent: Lent,
     operators: &mut [u16],
@@ -118,4 +118,21 @@ pub fn list(
         lent_parts::first(answers, lent.answers),
     );
     replay_memory::head_checksum(frame, pairs)
+}
+
+// Makes the call of a frame that is a message or a message list, writes its answer's numbers, and answers the checksum of the head.
+pub fn call(
+    frame: &[u8],
+    lent: Lent,
+    operators: &mut [u16; 12300],
+    rides: &mut [u16; 12300],
+    stamps: &mut [u32; 12300],
+    index: &mut [u16; 16000],
+    answers: &mut [u16; 70],
+) -> u64 {
+    if frames::word(frame, 0) == 4 {
+        message(frame, lent, operators, rides, stamps, index)
+    } else {
+        list(frame, lent, operators, rides, stamps, index, answers)
+    }
 }

@@ -1,0 +1,72 @@
+// The calls of a frame that send no message: build, query and peel, by the functions behind the exported calls.
+use replay_memory::Lent;
+use replay_memory::head;
+
+fn build(
+    frame: &[u8],
+    lent: Lent,
+    operators: &mut [u16],
+    rides: &mut [u16],
+    stamps: &mut [u32],
+    index: &mut [u16],
+) {
+    let start = frames::long(frame, 4);
+    let code = builds::build(
+        head(frame),
+        lent_parts::first(operators, lent.operators),
+        lent_parts::first(rides, lent.rides),
+        start,
+        lent_parts::first_longs(stamps, lent.stamps),
+        lent_parts::first(index, lent.index),
+    );
+    frames::print(code);
+}
+
+fn query(frame: &[u8], lent: Lent, index: &[u16], marks: &mut [u16]) {
+    let alpha = frames::word(frame, 4);
+    let beta = frames::word(frame, 5);
+    let i = frames::least(lent.index, index.len());
+    let m = frames::least(lent.marks, marks.len());
+    let counts = queries::query(head(frame), &index[0..i], alpha, beta, &mut marks[0..m]);
+    frames::print(counts.code);
+    frames::print(counts.operators);
+    frames::print(counts.rides);
+}
+
+fn peel(frame: &[u8], lent: Lent, operators: &[u16], rides: &[u16], marks: &mut [u16]) {
+    let alpha = frames::word(frame, 4);
+    let beta = frames::word(frame, 5);
+    let steps = frames::word(frame, 6);
+    let o = frames::least(lent.operators, operators.len());
+    let r = frames::least(lent.rides, rides.len());
+    let m = frames::least(lent.marks, marks.len());
+    let peeled = peels::peel(
+        head(frame),
+        &operators[0..o],
+        &rides[0..r],
+        &mut marks[0..m],
+        alpha,
+        beta,
+        steps,
+    );
+    frames::print(peeled.code);
+    frames::print(peeled.settled);
+    frames::print(peeled.steps);
+}
+
+// Makes the call of a frame that is a build, a query or a peel, and writes its answer's numbers.
+pub fn call(
+    frame: &[u8],
+    lent: Lent,
+    operators: &mut [u16; 12300],
+    rides: &mut [u16; 12300],
+    stamps: &mut [u32; 12300],
+    index: &mut [u16; 16000],
+    marks: &mut [u16; 270],
+) {
+    match frames::word(frame, 0) {
+        1 => build(frame, lent, operators, rides, stamps, index),
+        2 => query(frame, lent, index, marks),
+        _ => peel(frame, lent, operators, rides, marks),
+    }
+}
