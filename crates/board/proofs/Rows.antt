@@ -9,11 +9,11 @@ use denote.Laws.{Is}
 use denote.Struct.Laws as LL
 use Rattle.model.specs.declared.Head.{Head}
 use Rattle.model.specs.declared.Answer.{Answer}
-use Rattle.messages.specs.declared.Delivered.{Delivered}
+use Rattle.taking.specs.declared.Delivered.{Delivered}
 use Rattle.model.proofs.Answer as Q
 use Rattle.model.proofs.Answer.Laws as Q′
-use Rattle.messages.proofs.Delivered as D
-use Rattle.messages.proofs.Delivered.Laws as D′
+use Rattle.taking.proofs.Delivered as D
+use Rattle.taking.proofs.Delivered.Laws as D′
 use Rattle.model.proofs.Head as T
 use Rattle.model.proofs.Head.Laws as T′
 use Rattle.model.proofs.Message as N

@@ -15,9 +15,10 @@ use Rattle.model.proofs.Count.{test-true, test-false, and-left, and-right, and-
 use Rattle.model.proofs.Pairs.{Pairs, pairs-fit, pairs-count, pairs-operators, pairs-rides}
 use Rattle.pairs.specs.Accepted.{AcceptedPairs}
 use Rattle.pairs.specs.Place.{FirstPlace}
-use Rattle.changes.specs.Change.{with-pair, graph-with, count-after, Inserted, Removed, Shifted, Changed}
+use Rattle.shifts.specs.Shift.{Inserted, Removed, Shifted}
+use Rattle.changes.specs.Change.{with-pair, graph-with, count-after, Changed}
 use Rattle.pairs.proofs.Place.{number, held, room, listed-first, stands-listed, unlisted-behind}
-use Rattle.changes.proofs.Words.{drop-more, padded-done}
+use Rattle.shifts.proofs.Words.{drop-more, padded-done}
 
 -- a place below, at or above another
 by-place {ℓ} : {C : Type ℓ} (k p : ℕ) → (k < p → C) → (k ≡ p → C) → (p < k → C) → C

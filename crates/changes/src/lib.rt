@@ -5,7 +5,7 @@ ghost use Prim.Native.Nat.{_+_, _<_, _≤_};
 ghost use lib.ListN.{length};
 ghost use Rattle.model.specs.Layout.{pair-places};
 ghost use Rattle.pairs.specs.Accepted.{AcceptedPairs};
-ghost use Rattle.changes.specs.Change.{count-after, Inserted, Removed, Shifted, Changed};
+ghost use Rattle.changes.specs.Change.{count-after, Changed};
 use model::Head;
 
 // The number of pairs after a grant or a withdrawal.
@@ -23,54 +23,6 @@ fn count_of(pairs: usize, is_listed: bool, grant: bool) -> usize
         return pairs - 1;
     }
     pairs
-}
-
-// Inserts a word at a place of the first n words; each word from there on moves up by one place.
-fn insert(array: &mut [u16], place: usize, n: usize, word: u16)
-    requires { ⌜ (place ≤ n) × (n < length (now array)) ⌝ }
-    ensures { λ _. ⌜ Inserted place n word (now (array .entry)) (now (array .exit)) ⌝ }
-{
-    let mut carried = word;
-    let mut i = place;
-    while i <= n {
-        let next = array[i];
-        array[i] = carried;
-        carried = next;
-        i += 1;
-    }
-}
-
-// Removes the word at a place of the first n words; each word behind it moves down by one place.
-fn remove(array: &mut [u16], place: usize, n: usize)
-    requires { ⌜ (place < n) × (n ≤ length (now array)) ⌝ }
-    ensures { λ _. ⌜ Removed place n (now (array .entry)) (now (array .exit)) ⌝ }
-{
-    let mut i = place;
-    while i + 1 < n {
-        array[i] = array[i + 1];
-        i += 1;
-    }
-}
-
-// Inserts a word where the number of pairs rises to count, and removes the one at the place where it falls.
-fn shift(array: &mut [u16], place: usize, word: u16, pairs: usize, count: usize)
-    requires { ⌜
-        (place ≤ pairs) ×
-        (pairs ≤ length (now array)) ×
-        (count ≤ length (now array)) ×
-        (count ≤ pairs + 1) ×
-        (count < pairs → place < pairs)
-        ⌝ }
-    ensures { λ _. ⌜ Shifted pairs count place word (now (array .entry)) (now (array .exit)) ⌝ }
-{
-    if pairs < count {
-        insert(array, place, pairs, word);
-        return;
-    }
-    if pairs == count {
-        return;
-    }
-    remove(array, place, pairs);
 }
 
 // Adds the pair to the pair arrays (a grant) or removes it (a withdrawal) where needed, and zeroes their tails; the new number of pairs.
@@ -99,8 +51,8 @@ pub fn change(
     let place = pairs::place_of(head, operator, ride, operators, rides);
     let stands = pairs::stands_at(pairs, place, operator, ride, operators, rides);
     let count = count_of(pairs, stands, grant);
-    shift(operators, place, operator, pairs, count);
-    shift(rides, place, ride, pairs, count);
+    shifts::shift(operators, place, operator, pairs, count);
+    shifts::shift(rides, place, ride, pairs, count);
     words::fill(operators, count, places, 0);
     words::fill(rides, count, places, 0);
     count as u16

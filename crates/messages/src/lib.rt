@@ -1,47 +1,11 @@
-// A message delivered: refused, or entered with the index filled anew.
+// A message delivered: refused, or taken.
 ghost use mathlib.Core.Path.{_≡_};
 ghost use Rattle.model.specs.Layout.{lent};
-ghost use Rattle.model.specs.Refusal.{message-refusal};
 ghost use Rattle.model.specs.Message.{board-message};
-ghost use Rattle.messages.specs.Deliver.{outcome-of};
+ghost use Rattle.taking.specs.Deliver.{outcome-of};
 use model::Head;
 use model::Message;
-
-// What a message answers, and the number of pairs after it.
-pub struct Delivered {
-    pub code: u16,
-    pub differ: u16,
-    pub pairs: u16,
-}
-
-// Takes a message that is not refused: it is entered, and the index is filled anew.
-fn take(
-    head: Head,
-    message: Message,
-    operators: &mut [u16],
-    rides: &mut [u16],
-    stamps: &mut [u32],
-    index: &mut [u16],
-) -> Delivered
-    requires { ⌜ message-refusal (lent head (now operators) (now rides) (now stamps) (now index)) message ≡ 0 ⌝ }
-    ensures { λ r. ⌜
-        outcome-of head r (now (operators .exit)) (now (rides .exit)) (now (stamps .exit)) (now (index .exit))
-        ≡ board-message (lent head (now (operators .entry)) (now (rides .entry)) (now (stamps .entry)) (now (index .entry))) message
-        ⌝ }
-{
-    let pairs = entries::enter(head, message, operators, rides, stamps);
-    let next = Head {
-        operators: head.operators,
-        rides: head.rides,
-        pairs,
-    };
-    let differ = levels::fill_index(next, operators, rides, index);
-    Delivered {
-        code: 0,
-        differ,
-        pairs,
-    }
-}
+use taking::Delivered;
 
 // Message, with the head by value: what it answers, and the number of pairs after it.
 pub fn deliver(
@@ -65,5 +29,5 @@ pub fn deliver(
             pairs: head.pairs,
         };
     }
-    take(head, message, operators, rides, stamps, index)
+    taking::take(head, message, operators, rides, stamps, index)
 }

@@ -15,7 +15,7 @@ use Rattle.model.specs.Calls.{peeled, board-peel}
 use Rattle.model.proofs.Count.{some-holds}
 use Rattle.model.proofs.Chain.{first-none, enough}
 use Rattle.pairs.specs.Accepted.{AcceptedPairs}
-use Rattle.peels.specs.Peel.{Gives}
+use Rattle.pair_peels.specs.Peel.{Gives}
 use Rattle.peel_refusals.proofs.Chain.{short-parts, peel-long}
 use Rattle.model.specs.Outcome.{peel-left}
 

@@ -1,7 +1,7 @@
 // The message and message list calls of a frame, sent through `messages::deliver`.
-use messages::Delivered;
 use model::Message;
 use replay_memory::Lent;
+use taking::Delivered;
 
 fn message_at(frame: &[u8], at: usize) -> Message {
     Message {

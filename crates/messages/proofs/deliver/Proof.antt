@@ -2,7 +2,7 @@
 use borrow.Author.Needs.{needs}
 use mathlib.Core.Path.{_≡_, sym, _∙_, refl}
 use native.Mathlib.Omega.{arith}
-use Rattle.messages.proofs.Taking.{deliver-refused}
+use Rattle.messages.proofs.Refused.{deliver-refused}
 use Rattle.messages.proofs.deliver.Statement.{statement}
 use Rattle.messages.proofs.deliver.Tie as tie
 

@@ -39,7 +39,7 @@ use denote.Signature.{typesAt}
 use Rattle.entries.specs.Enter.{with-pairs}
 use Rattle.model.specs.declared.Head.{Head}
 use Rattle.model.specs.declared.Message.{Message}
-use Rattle.messages.specs.declared.Delivered.{Delivered}
+use Rattle.taking.specs.declared.Delivered.{Delivered}
 use Rattle.walks.proofs.Frame.{locals, at-local, lets, enters, leaves}
 use Rattle.walks.proofs.Borrow.{spans, reborrows, vars, land-as}
 use Rattle.walks.proofs.Rows.{like, over, Slice, Elems, elems, past, mut-rows, spells, tells, mut-lawfuls, all-said, all-fit, all-go, own-items, last-items}
@@ -49,8 +49,8 @@ use Rattle.model.proofs.Message as N
 use Rattle.model.proofs.Message.Laws as N′
 use Rattle.model.proofs.Answer as Q
 use Rattle.model.proofs.Answer.Laws as Q′
-use Rattle.messages.proofs.Delivered as D
-use Rattle.messages.proofs.Delivered.Laws as D′
+use Rattle.taking.proofs.Delivered as D
+use Rattle.taking.proofs.Delivered.Laws as D′
 use Rattle.board.proofs.Rows.{Rs, Hd, Mg, An, Dl, head-fits, head-made, pairs-made, delivered-fits, delivered-made, answer-of, answer-made}
 use Rattle.messages.proofs.deliver as deliver
 use Rattle.messages.proofs.deliver.Symbol as deliver-def

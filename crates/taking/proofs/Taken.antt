@@ -1,9 +1,8 @@
--- A message delivered: refused, or entered with the index filled anew. Assumes nothing.
-use mathlib.Core.Path.{_≡_, refl, sym, ap, _∙_}
-use mathlib.Core.Logic.{_≢_}
+-- A message that is taken: entered, with the index filled anew. Assumes nothing.
+use mathlib.Core.Path.{_≡_, sym, ap, _∙_}
 use mathlib.Core.Bool.{not}
 use mathlib.Core.List.{List, []}
-use Prim.Native.Nat.{ℕ, zero, suc, _≤_}
+use Prim.Native.Nat.{ℕ, _≤_}
 use native.Mathlib.Omega.{arith}
 use lib.Dec.{eqb}
 use lib.ListN.{length, getD, drop, List·getD-append}
@@ -18,21 +17,14 @@ use Rattle.model.proofs.Count.{count-ext}
 use Rattle.model.proofs.Parts.{by-part}
 use Rattle.model.proofs.Refusal.{Accepted, taken-none}
 use Rattle.model.proofs.Contents.{length-words}
-use Rattle.model.proofs.Taken.{message-taken, message-refused}
+use Rattle.model.proofs.Taken.{message-taken}
 use Rattle.entries.specs.Enter.{Enters, next, with-pairs, Entered}
 use Rattle.entries.proofs.Next.{room-of, says-same, next-index}
-use Rattle.messages.specs.Deliver.{outcome-of}
+use Rattle.taking.specs.Deliver.{outcome-of}
 
 module _ (h : Head) (m : Message) (operators rides stamps index : List ℕ) where
   abbrev board : Board
   board = lent h operators rides stamps index
-
-  -- a message that is refused
-  pub deliver-refused : (k : ℕ) → k ≡ message-refusal board m → k ≢ 0 → outcome-of h (record { code = k; differ = 0; pairs = h .pairs }) operators rides stamps index ≡ board-message board m
-  deliver-refused zero e n = absurd (n refl)
-  deliver-refused (suc k) e n = sym (message-refused board m k (sym e))
-
-  -- ---- a message that is not
 
   abbrev after : Contents
   after = next h m operators rides stamps

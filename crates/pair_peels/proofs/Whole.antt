@@ -11,7 +11,7 @@ use Rattle.model.proofs.Peel.{steps-past, settled-past, peel-past}
 use Rattle.states.specs.declared.State.{State}
 use Rattle.states.specs.Steps.{Started, first-marks}
 use Rattle.peeling.specs.Run.{Ran}
-use Rattle.peels.specs.Peel.{Gives}
+use Rattle.pair_peels.specs.Peel.{Gives}
 
 module _ (g : Graph) (limit : ℕ → ℕ) (allowed : ℕ) (came : List ℕ) (room : nodes g ≤ length came) (s₀ s : State) (start : Started g came s₀) (run : Ran g limit allowed s₀ s) where
   abbrev behind : List ℕ

@@ -5,7 +5,7 @@ use Rattle.model.specs.declared.Head.{Head}
 use Rattle.model.specs.Layout.{lent}
 use Rattle.model.specs.Message.{MessageOutcome}
 use Rattle.entries.specs.Enter.{with-pairs}
-use Rattle.messages.specs.declared.Delivered.{Delivered}
+use Rattle.taking.specs.declared.Delivered.{Delivered}
 
 -- the answer, and the lent parts at exit
 abbrev pub outcome-of : Head → Delivered → List ℕ → List ℕ → List ℕ → List ℕ → MessageOutcome

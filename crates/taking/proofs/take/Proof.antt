@@ -1,8 +1,8 @@
--- `messages::take` meets its contract: the message is entered, and the index is that of the new pairs. Assumes nothing.
+-- `taking::take` meets its contract: the message is entered, and the index is that of the new pairs. Assumes nothing.
 use Rattle.entries.proofs.Next.{next-pairs}
-use Rattle.messages.proofs.Taking.{take-ready, index-long, take-done}
-use Rattle.messages.proofs.take.Statement.{statement}
-use Rattle.messages.proofs.take.Tie as tie
+use Rattle.taking.proofs.Taken.{take-ready, index-long, take-done}
+use Rattle.taking.proofs.take.Statement.{statement}
+use Rattle.taking.proofs.take.Tie as tie
 
 enter-requires : tie.Need-enter-requires
 enter-requires c κs = let s = c .before .before .before .before .before .before .before in take-ready (s .args .head) (s .args .message) _ _ _ _ (s .pre)

@@ -1,13 +1,13 @@
--- `changes::remove` meets its contract. The loop's invariant: the words below i are those after the removal, the others as they came. Assumes nothing.
+-- `shifts::remove` meets its contract. The loop's invariant: the words below i are those after the removal, the others as they came. Assumes nothing.
 use borrow.Author.Needs.{needs}
 use Prim.Native.Nat.{ℕ, _+_, _≤_, _-_}
 use mathlib.Core.Path.{_≡_, refl, sym, _∙_}
 use native.Mathlib.Omega.{arith}
 use lib.ListN.{length, getD, length-set}
 use Rattle.words.proofs.Storing.{Storing, storing-start, storing-more}
-use Rattle.changes.proofs.Words.{removed-at, removed-below, removed-above}
-use Rattle.changes.proofs.remove.Statement.{statement}
-use Rattle.changes.proofs.remove.Tie as tie
+use Rattle.shifts.proofs.Words.{removed-at, removed-below, removed-above}
+use Rattle.shifts.proofs.remove.Statement.{statement}
+use Rattle.shifts.proofs.remove.Tie as tie
 
 abbrev Inv-loop : tie.InvT-loop
 Inv-loop array₀ place n i₀ array i =

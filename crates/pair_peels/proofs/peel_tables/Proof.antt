@@ -1,4 +1,4 @@
--- `peels::peel_tables` meets its contract. Assumes nothing.
+-- `pair_peels::peel_tables` meets its contract. Assumes nothing.
 use borrow.Author.Needs.{needs}
 use mathlib.Core.Path.{_≡_, ap, _∙_}
 use mathlib.Core.List.{_++_}
@@ -6,9 +6,9 @@ use Prim.Native.Nat.{ℕ, _+_}
 use native.Mathlib.Omega.{arith}
 use lib.ListN.{length, take, drop}
 use Rattle.model.specs.Graph.{nodes}
-use Rattle.peels.proofs.Whole.{peel-gives}
-use Rattle.peels.proofs.peel_tables.Statement.{statement}
-use Rattle.peels.proofs.peel_tables.Tie as tie
+use Rattle.pair_peels.proofs.Whole.{peel-gives}
+use Rattle.pair_peels.proofs.peel_tables.Statement.{statement}
+use Rattle.pair_peels.proofs.peel_tables.Tie as tie
 
 cast-operators : tie.Need-cast-operators
 cast-operators c = search needs

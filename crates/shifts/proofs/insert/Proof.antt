@@ -1,13 +1,13 @@
--- `changes::insert` meets its contract. The loop's invariant: the words below i are those after the insertion, and the carried word is the next. Assumes nothing.
+-- `shifts::insert` meets its contract. The loop's invariant: the words below i are those after the insertion, and the carried word is the next. Assumes nothing.
 use borrow.Author.Needs.{needs}
 use mathlib.Core.Path.{_≡_, refl, sym, ap, _∙_}
 use Prim.Native.Nat.{ℕ, _+_, _≤_, _-_}
 use native.Mathlib.Omega.{arith}
 use lib.ListN.{length, getD, length-set}
 use Rattle.words.proofs.Storing.{Storing, storing-start, storing-more}
-use Rattle.changes.proofs.Words.{inserted-at, inserted-below, inserted-here, inserted-above}
-use Rattle.changes.proofs.insert.Statement.{statement}
-use Rattle.changes.proofs.insert.Tie as tie
+use Rattle.shifts.proofs.Words.{inserted-at, inserted-below, inserted-here, inserted-above}
+use Rattle.shifts.proofs.insert.Statement.{statement}
+use Rattle.shifts.proofs.insert.Tie as tie
 
 abbrev Inv-loop : tie.InvT-loop
 Inv-loop array₀ place n word carried₀ i₀ array carried i =

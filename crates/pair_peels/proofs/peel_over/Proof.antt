@@ -1,4 +1,4 @@
--- `peels::peel_over` meets its contract: the tables hold the clearances, the list the limits of the nodes, and `peel_tables` does the rest. Assumes nothing.
+-- `pair_peels::peel_over` meets its contract: the tables hold the clearances, the list the limits of the nodes, and `peel_tables` does the rest. Assumes nothing.
 use borrow.Author.Needs.{needs}
 use mathlib.Core.List.{List}
 use mathlib.Core.Path.{refl, ap, _∙_}
@@ -8,9 +8,9 @@ use Rattle.model.specs.Calls.{PeelOutcome}
 use Rattle.model.specs.Layout.{graph}
 use Rattle.limits.specs.Limits.{limit-of}
 use Rattle.limits.proofs.Limits.{words-limits}
-use Rattle.peels.proofs.Limits.{peeled-same}
-use Rattle.peels.proofs.peel_over.Statement.{statement}
-use Rattle.peels.proofs.peel_over.Tie as tie
+use Rattle.pair_peels.proofs.Limits.{peeled-same}
+use Rattle.pair_peels.proofs.peel_over.Statement.{statement}
+use Rattle.pair_peels.proofs.peel_over.Tie as tie
 use Rattle.tables.proofs.fill.Reads as fill-reads′
 
 fill-requires : tie.Need-fill-requires

@@ -1,9 +1,9 @@
--- `changes::shift` meets its contract. Assumes nothing.
+-- `shifts::shift` meets its contract. Assumes nothing.
 use borrow.Author.Needs.{needs}
 use native.Mathlib.Omega.{arith}
 use mathlib.Core.Path.{refl}
-use Rattle.changes.proofs.shift.Statement.{statement}
-use Rattle.changes.proofs.shift.Tie as tie
+use Rattle.shifts.proofs.shift.Statement.{statement}
+use Rattle.shifts.proofs.shift.Tie as tie
 
 insert-requires : tie.Need-insert-requires
 insert-requires c κs = search needs
