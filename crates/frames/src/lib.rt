@@ -1,7 +1,10 @@
-// The frames that the replay programs read, as reference/README.md lays them out: the words of a frame by their place, and a line of text for each call.
+// The frames that the replay programs read, as reference/README.md lays them out: the words of a frame by their place, its head and messages, and
+// a line of text for each call.
 ghost use Prim.Native.Nat.{_≤_, _<_};
 use libc::STDIN_FILENO;
 use libc::STDOUT_FILENO;
+use model::Head;
+use model::Message;
 
 // The next count of a stream, and whether the stream had one more.
 pub struct Counted {
@@ -72,6 +75,29 @@ pub fn past(at: usize, words: usize) -> usize {
         return at;
     }
     at + words
+}
+
+// The head of a frame, with so many pairs by now.
+pub fn head_now(frame: &[u8], pairs: u16) -> Head {
+    Head {
+        operators: word(frame, 1),
+        rides: word(frame, 2),
+        pairs,
+    }
+}
+
+pub fn head(frame: &[u8]) -> Head {
+    head_now(frame, word(frame, 3))
+}
+
+// The message at a place of a frame.
+pub fn message_at(frame: &[u8], at: usize) -> Message {
+    Message {
+        kind: word(frame, at),
+        operator: word(frame, past(at, 1)),
+        ride: word(frame, past(at, 2)),
+        stamp: long(frame, past(at, 3)),
+    }
 }
 
 // The number where the condition holds, or else 0.

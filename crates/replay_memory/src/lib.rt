@@ -1,19 +1,4 @@
 // The memory that the replays lend: set as a frame says, and its checksum.
-use model::Head;
-
-// The head of a frame, with so many pairs by now.
-pub fn head_now(frame: &[u8], pairs: u16) -> Head {
-    Head {
-        operators: frames::word(frame, 1),
-        rides: frames::word(frame, 2),
-        pairs,
-    }
-}
-
-pub fn head(frame: &[u8]) -> Head {
-    head_now(frame, frames::word(frame, 3))
-}
-
 // The checksum of a frame's head, with so many pairs by now.
 pub fn head_checksum(frame: &[u8], pairs: u16) -> u64 {
     let words = [frames::word(frame, 1), frames::word(frame, 2), pairs];

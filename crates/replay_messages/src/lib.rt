@@ -1,16 +1,6 @@
 // The message and message list calls of a frame, sent through `messages::deliver`.
-use model::Message;
 use replay_memory::Lent;
 use taking::Delivered;
-
-fn message_at(frame: &[u8], at: usize) -> Message {
-    Message {
-        kind: frames::word(frame, at),
-        operator: frames::word(frame, frames::past(at, 1)),
-        ride: frames::word(frame, frames::past(at, 2)),
-        stamp: frames::long(frame, frames::past(at, 3)),
-    }
-}
 
 // Delivers the message at a place of the frame, to a board that has so many pairs by now.
 fn deliver_at(
@@ -22,8 +12,15 @@ fn deliver_at(
     stamps: &mut [u32],
     index: &mut [u16],
 ) -> Delivered {
-    let now = replay_memory::head_now(frame, pairs);
-    messages::deliver(now, message_at(frame, at), operators, rides, stamps, index)
+    let now = frames::head_now(frame, pairs);
+    messages::deliver(
+        now,
+        frames::message_at(frame, at),
+        operators,
+        rides,
+        stamps,
+        index,
+    )
 }
 
 fn message(
@@ -80,7 +77,7 @@ fn deliver_list(
 ) -> u16 {
     let count = frames::word(frame, 4) as usize;
     let code = message_refusals::list_number(
-        replay_memory::head(frame),
+        frames::head(frame),
         count,
         operators,
         rides,

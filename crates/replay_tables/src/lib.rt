@@ -1,6 +1,6 @@
 // The calls of a frame that send no message: build, query and peel, by the functions behind the exported calls.
+use frames::head;
 use replay_memory::Lent;
-use replay_memory::head;
 
 fn build(
     frame: &[u8],
