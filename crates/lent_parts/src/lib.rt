@@ -64,7 +64,7 @@ fn set(frame: &[u8], run: Run, words: &mut [u16], longs: &mut [u32]) -> usize {
 }
 
 // How many places a call lends of a part, and the place in the frame of the next part.
-pub struct Lent {
+pub struct Loaded {
     pub places: usize,
     pub next: usize,
 }
@@ -77,25 +77,25 @@ fn load_part(
     width: usize,
     words: &mut [u16],
     longs: &mut [u32],
-) -> Lent {
+) -> Loaded {
     if !has {
-        return Lent {
+        return Loaded {
             places: 0,
             next: at,
         };
     }
     set(frame, filled(frame, at), words, longs);
-    Lent {
+    Loaded {
         places: frames::word(frame, at) as usize,
         next: set(frame, put(frame, at, width), words, longs),
     }
 }
 
-pub fn load(frame: &[u8], at: usize, has: bool, memory: &mut [u16]) -> Lent {
+pub fn load(frame: &[u8], at: usize, has: bool, memory: &mut [u16]) -> Loaded {
     load_part(frame, at, has, 1, memory, &mut [])
 }
 
-pub fn load_longs(frame: &[u8], at: usize, has: bool, memory: &mut [u32]) -> Lent {
+pub fn load_longs(frame: &[u8], at: usize, has: bool, memory: &mut [u32]) -> Loaded {
     load_part(frame, at, has, 2, &mut [], memory)
 }
 
