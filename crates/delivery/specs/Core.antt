@@ -3,11 +3,12 @@ use mathlib.Core.Path.{_≡_}
 use mathlib.Core.List.{List, _++_}
 use Prim.Native.Nat.{ℕ, _≤_}
 use lib.ListN.{length}
+use Rattle.model.specs.declared.Head.{Head}
 use Rattle.model.specs.Graph.{index-of}
 use Rattle.model.specs.Layout.{Operators, Rides, Index, Board, mark-places, board-graph}
 use Rattle.model.specs.Refusal.{build-refusal}
 use Rattle.model.specs.Calls.{board-query, board-peel}
-use Rattle.model.specs.Demand.{AllOnes, PeelLaws, CoverLaws, LevelLaws, QueryIsCore, IsCore, IndexThenQuery, BuildThenQuery, IsPeeledCore, PeelIsCore}
+use Rattle.model.specs.Demand.{AllOnes, PeelLaws, CoverLaws, LevelLaws, ZeroIsNoLimit, QueryIsCore, IsCore, IndexThenQuery, BuildThenQuery, IsPeeledCore, PeelIsCore}
 use Rattle.delivery.specs.Calls.{Call, run, built-board}
 
 -- the index that a list of calls left is that of the pairs that the board then lists
@@ -23,8 +24,6 @@ abbrev pub CallsThenQuery : Type 0
 CallsThenQuery =
     (b : Board) (start : ℕ) (calls : List Call) (more : List ℕ) (α β : ℕ) (marks : List ℕ) →
     build-refusal b start ≡ 0 →
-    1 ≤ α →
-    1 ≤ β →
     mark-places (b .head) ≤ length marks →
     let left = run (built-board b start) calls in
     IsCore (board-graph left) α β (board-query (left .head) (left .part Index ++ more) α β marks)
@@ -34,8 +33,6 @@ abbrev pub CallsThenPeel : Type 0
 CallsThenPeel =
     (b : Board) (start : ℕ) (calls : List Call) (more more′ : List ℕ) (α β allowed : ℕ) (marks : List ℕ) →
     build-refusal b start ≡ 0 →
-    1 ≤ α →
-    1 ≤ β →
     mark-places (b .head) ≤ length marks →
     AllOnes (board-graph b) marks →
     let left = run (built-board b start) calls in
@@ -43,10 +40,11 @@ CallsThenPeel =
 
 -- Demand 2, all of it
 pub record Demand2 : Type 0 where
-  -- of the definitions: cover, level and index, peel
+  -- of the definitions: cover, level and index, peel, and what a query marks
   pub cover-laws : CoverLaws
   pub level-laws : LevelLaws
   pub peel-laws : PeelLaws
+  pub zero-is-no-limit : (h : Head) (index : List ℕ) → ZeroIsNoLimit h index
   pub query-is-core : QueryIsCore
   -- of the calls
   pub index-then-query : IndexThenQuery

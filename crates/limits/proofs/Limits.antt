@@ -55,10 +55,10 @@ module _ (n m α β : ℕ) where
         (subst (λ (k : ℕ). drop k (filled n (n + m) β first) ≡ drop k l) (sym length-words) rest)
 
 -- the words are the limits of the nodes
-pub words-limits : (g : Graph) (α β : ℕ) (l : List ℕ) (x : ℕ) → x < nodes g → limit-of (over (limit-words (g .operators) (g .rides) α β) l) x ≡ limits g α β x
+pub words-limits : (g : Graph) (α β : ℕ) (l : List ℕ) (x : ℕ) → x < nodes g → limit-of (over (limit-words (g .operators) (g .rides) α β) l) x ≡ limits (g .operators) α β x
 words-limits g α β l x h =
     List·getD-append (limit-words (g .operators) (g .rides) α β) (drop (length (limit-words (g .operators) (g .rides) α β)) l) 0 x (omega (arith, length-words (g .operators) (g .rides) α β)) ∙
     elim (decLt x (g .operators)) [
-      | yes k ↦ operator-word (g .operators) (g .rides) α β x k ∙ sym (limits-operator g α β x k)
-      | no k ↦ ride-word (g .operators) (g .rides) α β x (omega arith) h ∙ sym (limits-ride g α β x (omega arith))
+      | yes k ↦ operator-word (g .operators) (g .rides) α β x k ∙ sym (limits-operator (g .operators) α β x k)
+      | no k ↦ ride-word (g .operators) (g .rides) α β x (omega arith) h ∙ sym (limits-ride (g .operators) α β x (omega arith))
     ]

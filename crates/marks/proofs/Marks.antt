@@ -1,73 +1,72 @@
--- The marks and counts of one row: operators and rides are counted together, the rides in their marks once more. Assumes nothing.
+-- The marks and counts of one row: the operators are marked and counted, then the rides. Assumes nothing.
 use mathlib.Core.Path.{_≡_, refl, sym, ap, _∙_}
 use mathlib.Core.List.{List, _++_}
-use Prim.Native.Nat.{ℕ, zero, suc, _+_, _-_, _≤_, _<_}
+use Prim.Native.Nat.{ℕ, _+_, _-_, _≤_, _<_}
+use native.Mathlib.Nat.{zero-add}
 use native.Mathlib.Omega.{arith}
-use lib.Dec.{leb, eqb}
-use lib.ListN.{length, getD, take, drop, length-take, length-drop, length-append, List·getD-append}
-use lib.Seq.{getD-take, getD-drop, drop-at}
+use lib.Dec.{leb}
+use lib.ListN.{length, getD, take, drop, length-take, length-drop, length-append}
+use lib.Seq.{getD-take, getD-drop, drop-drop, drop-at}
+use borrow.Rule.Slice.PartMut.{drop-put}
 use Rattle.model.specs.Count.{bit, count}
-use Rattle.model.specs.Graph.{marked}
-use Rattle.model.proofs.Count.{bit-le, bit-test, count-append, count-ext}
+use Rattle.model.proofs.Count.{count-ext}
+use Rattle.model.proofs.Store.{put-before, put-at, front-at}
 use Rattle.marks.specs.Marks.{Marked, RowMarked}
 
--- a mark that is 0 or 1 counts itself
-pub bit-of : (z : ℕ) → z ≤ 1 → bit (eqb z 1) ≡ z
-bit-of zero l = refl
-bit-of (suc zero) l = refl
-bit-of (suc (suc z)) l = absurd (let k : ⊥ = omega arith in k)
+-- the marks of a part of a row, from `first` on, by the row's own levels
+module _ (row : List ℕ) (first k least r : ℕ) (words : List ℕ) (inside : first + k ≤ length row) (m : Marked (take k (drop first row)) least r words) where
+  long : length (take k (drop first row)) ≡ k
+  long = simp (length-take, length-drop) (omega arith)
+
+  level : (i : ℕ) → i < k → leb least (getD (take k (drop first row)) i 0) ≡ leb least (getD row (first + i) 0)
+  level i l = ap (leb least) (getD-take k (drop first row) i 0 l ∙ getD-drop first row i 0)
+
+  part-mark : (i : ℕ) → i < k → getD words i 0 ≡ bit (leb least (getD row (first + i) 0))
+  part-mark i l = m .marks-are i (omega (arith, long)) ∙ ap bit (level i l)
+
+  part-count : r ≡ count k (λ i. leb least (getD row (first + i) 0))
+  part-count =
+      m .counted ∙
+      ap (λ (n : ℕ). count n (λ (i : ℕ). leb least (getD (take k (drop first row)) i 0))) long ∙
+      count-ext (λ (i : ℕ). leb least (getD (take k (drop first row)) i 0)) (λ (i : ℕ). leb least (getD row (first + i) 0)) k level
 
 -- ---- one row
 
-module _ (row marks : List ℕ) (n β : ℕ) (h : n ≤ length row) (l : length row ≤ length marks) (all : ℕ) (words : List ℕ) (m : Marked row β all words) (same : length words ≡ length (take (length row - 0) marks)) where
+module _ (row marks : List ℕ) (n operator ride : ℕ) (h : n ≤ length row) (l : length row ≤ length marks) (o : ℕ) (words : List ℕ) (m : Marked (take (n - 0) (drop 0 row)) operator o words) (same : length words ≡ length (take (n - 0) (drop 0 marks))) where
   abbrev w : ℕ
   w = length row
 
+  -- the marks once the operators are done
   abbrev done : List ℕ
-  done = words ++ drop (w - 0) marks
+  done = words ++ drop (n - 0) (drop 0 marks)
 
-  -- the marks of the rides
-  abbrev part : List ℕ
-  part = take (w - n) (drop n done)
-
-  words-long : length words ≡ w
+  words-long : length words ≡ n
   words-long = same ∙ simp length-take (omega arith)
 
-  done-at : (i : ℕ) → i < w → getD done i 0 ≡ bit (leb β (getD row i 0))
-  done-at i k = List·getD-append words (drop (w - 0) marks) 0 i (omega (arith, words-long)) ∙ m .marks-are i k
+  done-long : length done ≡ length marks
+  done-long = simp (length-append, length-drop) (omega (arith, words-long))
 
-  pub part-long : length part ≡ w - n
-  part-long = simp (length-take, length-drop, length-append) (omega (arith, words-long))
+  done-rest : drop w done ≡ drop w marks
+  done-rest =
+      ap (λ (k : ℕ). drop k done) (let e : w ≡ n + (w - n) = omega arith in e) ∙
+      sym (drop-drop (w - n) n done) ∙
+      ap (drop (w - n)) (drop-at words (drop (n - 0) marks) n words-long) ∙
+      drop-drop (w - n) (n - 0) marks ∙
+      ap (λ (k : ℕ). drop k marks) (let e : n - 0 + (w - n) ≡ w = omega arith in e)
 
-  part-at-ride : (i : ℕ) → i < w - n → getD part i 0 ≡ bit (leb β (getD row (n + i) 0))
-  part-at-ride i k = getD-take (w - n) (drop n done) i 0 k ∙ getD-drop n done i 0 ∙ done-at (n + i) (omega arith)
+  module _ (r : ℕ) (words′ : List ℕ) (m′ : Marked (take (w - n) (drop n row)) ride r words′) (same′ : length words′ ≡ length (take (w - n) (drop n done))) where
+    long′ : length words′ ≡ w - n
+    long′ = same′ ∙ simp (length-take, length-drop) (omega (arith, done-long))
 
-  pub part-bits : (i : ℕ) → i < length part → getD part i 0 ≤ 1
-  part-bits i k = let l : i < w - n = omega (arith, part-long) in omega (arith, part-at-ride i l, bit-le (leb β (getD row (n + i) 0)))
-
-  module _ (r : ℕ) (counted : r ≡ count (length part) (marked part)) where
-    rides-are : r ≡ count (w - n) (λ i. leb β (getD row (n + i) 0))
-    rides-are =
-        counted ∙
-        ap (λ (k : ℕ). count k (marked part)) part-long ∙
-        count-ext (marked part) (λ (i : ℕ). leb β (getD row (n + i) 0)) (w - n) (λ i k. ap (λ (z : ℕ). eqb z 1) (part-at-ride i k) ∙ bit-test (leb β (getD row (n + i) 0)))
-
-    all-is : all ≡ count n (λ i. leb β (getD row i 0)) + r
-    all-is =
-        m .counted ∙
-        ap (λ (k : ℕ). count k (λ (i : ℕ). leb β (getD row i 0))) (let e : w ≡ n + (w - n) = omega arith in e) ∙
-        count-append (λ (i : ℕ). leb β (getD row i 0)) n (w - n) ∙
-        ap (λ (k : ℕ). count n (λ (i : ℕ). leb β (getD row i 0)) + k) (sym rides-are)
-
-    pub rides-le : r ≤ all
-    rides-le = omega (arith, all-is)
-
-    pub row-marked : RowMarked row n β marks (record { code = 0; operators = all - r; rides = r }) done
+    pub row-marked : RowMarked row n operator ride marks (record { code = 0; operators = o; rides = r }) (take n done ++ (words′ ++ drop (w - n) (drop n done)))
     row-marked =
+        let rest : List ℕ = drop (w - n) (drop n done) in
+        let inside : n ≤ length done = omega (arith, done-long) in
         record {
           code = refl;
-          operators = omega (arith, all-is);
-          rides = rides-are;
-          marks-are = done-at;
-          tail = drop-at words (drop (w - 0) marks) w words-long ∙ ap (λ (k : ℕ). drop k marks) (let e : w - 0 ≡ w = omega arith in e);
+          operators = part-count row 0 (n - 0) operator o words (omega arith) m ∙ ap (λ (k : ℕ). count k (λ (i : ℕ). leb operator (getD row (0 + i) 0))) (let e : n - 0 ≡ n = omega arith in e) ∙ count-ext (λ (i : ℕ). leb operator (getD row (0 + i) 0)) (λ (i : ℕ). leb operator (getD row i 0)) n (λ i k. ap (λ (z : ℕ). leb operator (getD row z 0)) (zero-add i));
+          rides = part-count row n (w - n) ride r words′ (omega arith) m′;
+          operator-marks = λ i k. put-before done words′ rest n inside i 0 k ∙ front-at marks words (n - 0) (omega (arith, words-long)) i 0 (omega arith) ∙ part-mark row 0 (n - 0) operator o words (omega arith) m i (omega arith) ∙ ap (λ (z : ℕ). bit (leb operator (getD row z 0))) (zero-add i);
+          ride-marks = λ i k. put-at done words′ rest n inside i 0 (omega (arith, long′)) ∙ part-mark row n (w - n) ride r words′ (omega arith) m′ i k;
+          tail = drop-put n w done words′ h (omega (arith, done-long)) long′ ∙ done-rest;
         }

@@ -7,15 +7,16 @@ use lib.ListN.{length, getD, drop}
 use Rattle.model.specs.declared.Counts.{Counts}
 use Rattle.model.specs.Count.{bit, count}
 
--- marks of a row's levels: 1 exactly if the level is at least β, and how many are 1
-pub record Marked (levels : List ℕ) (β r : ℕ) (marks : List ℕ) : Type 0 where
-  pub marks-are : (i : ℕ) → i < length levels → getD marks i 0 ≡ bit (leb β (getD levels i 0))
-  pub counted : r ≡ count (length levels) (λ i. leb β (getD levels i 0))
+-- marks of levels: 1 exactly if the level is at least the given one, and how many are 1
+pub record Marked (levels : List ℕ) (least r : ℕ) (marks : List ℕ) : Type 0 where
+  pub marks-are : (i : ℕ) → i < length levels → getD marks i 0 ≡ bit (leb least (getD levels i 0))
+  pub counted : r ≡ count (length levels) (λ i. leb least (getD levels i 0))
 
--- marks and counts of one row of n operators and the rides; marks past the row are as they came
-pub record RowMarked (row : List ℕ) (n β : ℕ) (marks : List ℕ) (r : Counts) (marks′ : List ℕ) : Type 0 where
+-- marks and counts of one row of n operators and the rides, with the least level of an operator and of a ride; marks past the row are as they came
+pub record RowMarked (row : List ℕ) (n operator ride : ℕ) (marks : List ℕ) (r : Counts) (marks′ : List ℕ) : Type 0 where
   pub code : r .code ≡ 0
-  pub operators : r .operators ≡ count n (λ i. leb β (getD row i 0))
-  pub rides : r .rides ≡ count (length row - n) (λ i. leb β (getD row (n + i) 0))
-  pub marks-are : (i : ℕ) → i < length row → getD marks′ i 0 ≡ bit (leb β (getD row i 0))
+  pub operators : r .operators ≡ count n (λ i. leb operator (getD row i 0))
+  pub rides : r .rides ≡ count (length row - n) (λ i. leb ride (getD row (n + i) 0))
+  pub operator-marks : (i : ℕ) → i < n → getD marks′ i 0 ≡ bit (leb operator (getD row i 0))
+  pub ride-marks : (i : ℕ) → i < length row - n → getD marks′ (n + i) 0 ≡ bit (leb ride (getD row (n + i) 0))
   pub tail : drop (length row) marks′ ≡ drop (length row) marks

@@ -18,16 +18,16 @@ use Rattle.model.proofs.Cover.{limits-operator, limits-ride, cover-core
 use Rattle.model.proofs.Level.{level-holds, level-largest, level-more}
 
 -- a set that meets (α, β) meets (α, β - 1) without one operator
-meets-without : (g : Graph) (u : ℕ) → u < g .operators → (α β : ℕ) (s : List ℕ) → Meets g (limits g α β) (marked s) → Meets g (limits g α (β - 1)) (marked (set s u 0))
+meets-without : (g : Graph) (u : ℕ) → u < g .operators → (α β : ℕ) (s : List ℕ) → Meets g (limits (g .operators) α β) (marked s) → Meets g (limits (g .operators) α (β - 1)) (marked (set s u 0))
 meets-without g u o α β s m y h t =
     let d = m y h (marked-less s u y t) in
     elim (decLt y (g .operators)) [
-      | yes l ↦ omega (arith, limits-operator g α β y l, limits-operator g α (β - 1) y l, degree-same-operator g (marked (set s u 0)) (marked s) u (marked-other s u) o y l)
+      | yes l ↦ omega (arith, limits-operator (g .operators) α β y l, limits-operator (g .operators) α (β - 1) y l, degree-same-operator g (marked (set s u 0)) (marked s) u (marked-other s u) o y l)
       | no l ↦
           omega (
             arith,
-            limits-ride g α β y (omega arith),
-            limits-ride g α (β - 1) y (omega arith),
+            limits-ride (g .operators) α β y (omega arith),
+            limits-ride (g .operators) α (β - 1) y (omega arith),
             degree-ride g (marked s) y (omega arith),
             degree-ride g (marked (set s u 0)) y (omega arith),
             count-but-one
@@ -74,7 +74,7 @@ module _ (g : Graph) (c : ℕ → ℕ → Bool) (u : ℕ) (gained : Gained g c u
       ]
 
   -- so a set without u that meets (α, β) with them does so without them, and its nodes have level β at least
-  level-without : (α β x : ℕ) (s : ℕ → Bool) → (T (s u) → ⊥) → Meets (changed g c) (limits (changed g c) α β) s → 1 ≤ α → x < nodes g → T (s x) → β ≤ level g α x
+  level-without : (α β x : ℕ) (s : ℕ → Bool) → (T (s u) → ⊥) → Meets (changed g c) (limits (g .operators) α β) s → 1 ≤ α → x < nodes g → T (s x) → β ≤ level g α x
   unfolding limits
   level-without α β x s out m a h t =
       elim (decLe 1 β) [
@@ -97,7 +97,7 @@ module _ (g : Graph) (c : ℕ → ℕ → Bool) (u : ℕ) (gained : Gained g c u
       omega (
         arith,
         cover-core (changed g c) α β .meets u (omega (arith, gained .operator)) t,
-        limits-operator (changed g c) α β u (gained .operator),
+        limits-operator (g .operators) α β u (gained .operator),
         degree-mono (changed g c) (marked (cover (changed g c) α β)) everybody (λ y h m. tt) u,
       )
 

@@ -13,21 +13,21 @@ use Rattle.model.specs.Demand.{AllOnes, CoverLaws}
 use Rattle.model.proofs.Count.{and-right, count-le, count-witness}
 use Rattle.model.proofs.Peel.{degree-operator, degree-ride, all-ones, all-marked, peel-laws}
 
-module _ (g : Graph) (α β x : ℕ) where
-  pub limits-operator : x < g .operators → limits g α β x ≡ α
+module _ (n α β x : ℕ) where
+  pub limits-operator : x < n → limits n α β x ≡ α
   unfolding limits
-  limits-operator h = rw (lt-ltb x (g .operators) h, limits)
+  limits-operator h = rw (lt-ltb x n h, limits)
 
-  pub limits-ride : g .operators ≤ x → limits g α β x ≡ β
+  pub limits-ride : n ≤ x → limits n α β x ≡ β
   unfolding limits
-  limits-ride h = rw (le-ltb x (g .operators) h, limits)
+  limits-ride h = rw (le-ltb x n h, limits)
 
 module _ (g : Graph) (α α′ β β′ : ℕ) (a : α ≤ α′) (b : β ≤ β′) where
-  limits-mono : (x : ℕ) → limits g α β x ≤ limits g α′ β′ x
+  limits-mono : (x : ℕ) → limits (g .operators) α β x ≤ limits (g .operators) α′ β′ x
   limits-mono x =
       elim (decLt x (g .operators)) [
-        | yes h ↦ omega (arith, limits-operator g α β x h, limits-operator g α′ β′ x h)
-        | no h ↦ omega (arith, limits-ride g α β x (omega arith), limits-ride g α′ β′ x (omega arith))
+        | yes h ↦ omega (arith, limits-operator (g .operators) α β x h, limits-operator (g .operators) α′ β′ x h)
+        | no h ↦ omega (arith, limits-ride (g .operators) α β x (omega arith), limits-ride (g .operators) α′ β′ x (omega arith))
       ]
 
 -- ---- a node with a neighbour in the set
@@ -54,9 +54,9 @@ module _ (g : Graph) (s : ℕ → Bool) (x : ℕ) where
 -- ---- the cover
 
 -- the largest set inside all ones is the largest of all
-pub peeled-core : (g : Graph) (α β f : ℕ) (s : List ℕ) → AllOnes g s → T (settled g (limits g α β) (peel g (limits g α β) f s)) → Core g α β (marked (peel g (limits g α β) f s))
+pub peeled-core : (g : Graph) (α β f : ℕ) (s : List ℕ) → AllOnes g s → T (settled g (limits (g .operators) α β) (peel g (limits (g .operators) α β) f s)) → Core g α β (marked (peel g (limits (g .operators) α β) f s))
 peeled-core g α β f s ones done =
-    let l = peel-laws .largest g (limits g α β) f s done in
+    let l = peel-laws .largest g (limits (g .operators) α β) f s done in
     record {
       inside = λ x h t. tt;
       meets = l .meets;
@@ -67,10 +67,10 @@ pub cover-core : (g : Graph) (α β : ℕ) → Core g α β (marked (cover g α 
 unfolding cover
 cover-core g α β =
     let ones : List ℕ = replicate (nodes g) 1 in
-    peeled-core g α β (nodes g) ones (all-ones g) (peel-laws .settles g (limits g α β) (nodes g) ones (count-le (marked ones) (nodes g)))
+    peeled-core g α β (nodes g) ones (all-ones g) (peel-laws .settles g (limits (g .operators) α β) (nodes g) ones (count-le (marked ones) (nodes g)))
 
 -- a set that meets the limits lies inside the cover
-pub cover-holds : (g : Graph) (α β : ℕ) (t : ℕ → Bool) → Meets g (limits g α β) t → Inside g t (marked (cover g α β))
+pub cover-holds : (g : Graph) (α β : ℕ) (t : ℕ → Bool) → Meets g (limits (g .operators) α β) t → Inside g t (marked (cover g α β))
 cover-holds g α β t m = cover-core g α β .largest t (λ x h k. tt) m
 
 pub cover-laws : CoverLaws
@@ -88,13 +88,13 @@ module _ (g : Graph) (α β x : ℕ) (h : x < nodes g) (t : T (marked (cover g �
   cover-operator b =
       elim (decLt x (g .operators)) [
         | yes l ↦ (x, l, t)
-        | no l ↦ operator-of g (marked (cover g α β)) x (omega arith) (omega (arith, cover-core g α β .meets x h t, limits-ride g α β x (omega arith)))
+        | no l ↦ operator-of g (marked (cover g α β)) x (omega arith) (omega (arith, cover-core g α β .meets x h t, limits-ride (g .operators) α β x (omega arith)))
       ]
 
   pub cover-ride : 1 ≤ α → (y : ℕ) × (g .operators ≤ y) × (y < nodes g) × T (marked (cover g α β) y)
   cover-ride a =
       elim (decLt x (g .operators)) [
-        | yes l ↦ ride-of g (marked (cover g α β)) x l (omega (arith, cover-core g α β .meets x h t, limits-operator g α β x l))
+        | yes l ↦ ride-of g (marked (cover g α β)) x l (omega (arith, cover-core g α β .meets x h t, limits-operator (g .operators) α β x l))
         | no l ↦ (x, omega arith, h, t)
       ]
 
@@ -102,9 +102,9 @@ module _ (g : Graph) (α β x : ℕ) (h : x < nodes g) (t : T (marked (cover g �
   pub cover-low-β : 1 ≤ α → β ≤ g .operators
   cover-low-β a =
       let y = cover-ride a in
-      omega (arith, cover-core g α β .meets (y .0) (y .2) (y .3), limits-ride g α β (y .0) (y .1), degree-ride-le g (marked (cover g α β)) (y .0) (y .1))
+      omega (arith, cover-core g α β .meets (y .0) (y .2) (y .3), limits-ride (g .operators) α β (y .0) (y .1), degree-ride-le g (marked (cover g α β)) (y .0) (y .1))
 
   pub cover-low-α : 1 ≤ β → α ≤ g .rides
   cover-low-α b =
       let y = cover-operator b in
-      omega (arith, cover-core g α β .meets (y .0) (omega (arith, y .1)) (y .2), limits-operator g α β (y .0) (y .1), degree-operator-le g (marked (cover g α β)) (y .0) (y .1))
+      omega (arith, cover-core g α β .meets (y .0) (omega (arith, y .1)) (y .2), limits-operator (g .operators) α β (y .0) (y .1), degree-operator-le g (marked (cover g α β)) (y .0) (y .1))

@@ -1,16 +1,18 @@
 -- The laws of levels. Assumes nothing.
 use mathlib.Core.Path.{_≡_, refl, sym, ap, _∙_, subst}
-use mathlib.Core.Bool.{Bool, _&&_}
-use Prim.Native.Nat.{ℕ, zero, suc, _+_, _-_, _*_, _≤_, _<_}
+use mathlib.Core.Bool.{Bool, _&&_, _||_}
+use Prim.Native.Nat.{ℕ, zero, suc, _+_, _-_, _*_, _≤_, _<_, max}
 use native.Mathlib.Omega.{arith}
 use native.Mathlib.Decide.{decLt, decLe}
-use lib.Dec.{T}
+use lib.Dec.{T, leb, eqb, leb→le, le→leb, eqb→eq}
+use borrow.Author.Tests.{eq-eqb}
 use lib.ListN.{getD}
-use Rattle.model.specs.Graph.{Graph, nodes, degree, everybody, Inside, limits, marked, cover, level-to, level, index-of}
+use Rattle.model.specs.Graph.{Graph, nodes, degree, everybody, Inside, limits, marked, cover, level-to, level, row-for, in-by-level, index-of}
 use Rattle.model.specs.Demand.{changed, LevelLaws}
-use Rattle.model.proofs.Count.{by-test, test-true, test-false, and-left, and-right, and-both, count-mono, getD-rows, rows-ext}
+use Rattle.model.proofs.Count.{by-test, test-true, test-false, test-ext, or-left, or-right, or-cases, and-left, and-right, and-both, count-mono, getD-rows, rows-ext}
 use Rattle.model.proofs.Peel.{degree-operator, degree-ride, degree-mono}
-use Rattle.model.proofs.Cover.{limits-operator, cover-core, cover-holds, cover-operator, cover-low-β, cover-laws}
+use Rattle.model.proofs.Cover.{limits-operator, degree-operator-le, cover-core, cover-holds, cover-operator, cover-low-β, cover-laws}
+use Rattle.model.proofs.Zero.{cover-raised, cover-unlimited}
 
 -- ---- the largest β up to b
 
@@ -72,9 +74,31 @@ module _ (g : Graph) (α x : ℕ) where
       elim (decLe 1 (level g α x)) [
         | yes l ↦
             (let u = cover-operator g α (level g α x) x h (level-holds l) l in
-            absurd (let z : ⊥ = omega (arith, few (u .0) (u .1), limits-operator g α (level g α x) (u .0) (u .1), cover-core g α (level g α x) .meets (u .0) (omega (arith, u .1)) (u .2), degree-mono g (marked (cover g α (level g α x))) everybody (λ y k t. tt) (u .0)) in z))
+            absurd (let z : ⊥ = omega (arith, few (u .0) (u .1), limits-operator (g .operators) α (level g α x) (u .0) (u .1), cover-core g α (level g α x) .meets (u .0) (omega (arith, u .1)) (u .2), degree-mono g (marked (cover g α (level g α x))) everybody (λ y k t. tt) (u .0)) in z))
         | no l ↦ omega arith
       ]
+
+  -- as above the rides
+  pub level-high : g .rides < α → x < nodes g → level g α x ≡ 0
+  level-high r h = level-above (λ u l. omega (arith, degree-operator-le g everybody u l)) h
+
+-- limits from 0
+pub level-from-zero : (g : Graph) (α β x : ℕ) → x < nodes g → marked (cover g α β) x ≡ in-by-level (limits (g .operators) α β x) β (level g (row-for α) x)
+level-from-zero g α β x h =
+    let limit : ℕ = limits (g .operators) α β x in
+    let high : Bool = leb (max β 1) (level g (row-for α) x) in
+    elim (decLe 1 limit) [
+      | yes l ↦
+          cover-raised g α β x h l ∙
+          test-ext (marked (cover g (max α 1) (max β 1)) x) (eqb limit 0 || high)
+          (λ t. or-right (eqb limit 0) high (le→leb (max β 1) (level g (max α 1) x) (level-largest g (max α 1) x (max β 1) (omega arith) (omega arith) h t)))
+          (λ t. or-cases (eqb limit 0) high t (λ q. absurd (let z : ⊥ = omega (arith, eqb→eq limit 0 q) in z)) (λ q. level-in g (max α 1) x (max β 1) (omega arith) h (leb→le (max β 1) (level g (max α 1) x) q)))
+      | no l ↦
+          (let e : limit ≡ 0 = omega arith in
+          test-ext (marked (cover g α β) x) (eqb limit 0 || high)
+          (λ t. or-left (eqb limit 0) high (subst T (sym (eq-eqb limit 0 e)) tt))
+          (λ t. cover-unlimited g α β x h e))
+    ]
 
 -- ---- more clearances
 
@@ -107,12 +131,8 @@ module _ (g : Graph) (c : ℕ → ℕ → Bool) (more : (u v : ℕ) → u < g .o
             )
       ]
 
-  limits-same : (α β x : ℕ) → limits (changed g c) α β x ≡ limits g α β x
-  unfolding limits
-  limits-same α β x = refl
-
   pub cover-more : (α β : ℕ) → Inside g (marked (cover g α β)) (marked (cover (changed g c) α β))
-  cover-more α β = cover-holds (changed g c) α β (marked (cover g α β)) (λ x h t. omega (arith, limits-same α β x, cover-core g α β .meets x h t, degree-more (marked (cover g α β)) x h))
+  cover-more α β = cover-holds (changed g c) α β (marked (cover g α β)) (λ x h t. omega (arith, cover-core g α β .meets x h t, degree-more (marked (cover g α β)) x h))
 
   pub level-more : (α x : ℕ) → x < nodes g → level g α x ≤ level (changed g c) α x
   unfolding level
@@ -146,6 +166,7 @@ pub level-laws : LevelLaws
 level-laws =
     record {
       holds = λ g α β x a b h. (level-largest g α x β a b h, level-in g α x β b h);
+      from-zero = level-from-zero;
       same = level-same;
       above = λ g α few x h. level-above g α x few h;
       bound = level-bound;

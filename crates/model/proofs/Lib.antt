@@ -3,6 +3,7 @@ pub mod Store
 pub mod Differ
 pub mod Peel
 pub mod Cover
+pub mod Zero
 pub mod Level
 pub mod Change
 pub mod Query

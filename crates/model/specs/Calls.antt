@@ -1,5 +1,5 @@
--- Document 01, What the board does: build, query and peel, each a function from all that comes in to all that comes out.
-use mathlib.Core.Bool.{true, false, _&&_}
+-- Document 01, What the board does, and document 02, 2.1: build, query and peel, each a function from all that comes in to all that comes out.
+use mathlib.Core.Bool.{true, false}
 use mathlib.Core.List.{List}
 use Prim.Native.Nat.{ℕ, zero, suc, _+_, _-_, _*_}
 use lib.Dec.{leb}
@@ -8,7 +8,7 @@ use Rattle.model.specs.declared.Head.{Head}
 use Rattle.model.specs.declared.Counts.{Counts}
 use Rattle.model.specs.declared.Peeled.{Peeled}
 use Rattle.model.specs.Count.{bit, count, values}
-use Rattle.model.specs.Graph.{Graph, limits, marked, settled, removals, peel}
+use Rattle.model.specs.Graph.{Graph, limits, marked, settled, removals, peel, row-for, in-by-level}
 use Rattle.model.specs.Layout.{Board, mark-places, over, onto, graph, board-graph}
 use Rattle.model.specs.Contents.{Pair, Contents, board-of}
 use Rattle.model.specs.Refusal.{build-refusal, query-refusal, peel-refusal}
@@ -40,10 +40,18 @@ pub record QueryOutcome : Type 0 where
   pub answer : Counts
   pub marks : List ℕ
 
--- the marks that a query sets: 1 exactly if the row α level is at least β; α above rides marks nobody
+-- the level of node x that a query reads: its word in row α of the index, in row 1 for α = 0; level 0 where the index has no such row
+abbrev pub level-read : Head → List ℕ → ℕ → ℕ → ℕ
+level-read h index α x =
+    elim (leb (row-for α) (h .rides)) [
+      | true ↦ getD index ((row-for α - 1) * mark-places h + x) 0
+      | false ↦ 0
+    ]
+
+-- the marks that a query sets: 1 for all without a limit, and else exactly if that level is at least β, and at least 1
 unfoldable pub query-marks : Head → List ℕ → ℕ → ℕ → List ℕ
 query-marks h index α β =
-    values (mark-places h) (λ x. bit (leb α (h .rides) && leb β (getD index ((α - 1) * mark-places h + x) 0)))
+    values (mark-places h) (λ x. bit (in-by-level (limits (h .operators) α β x) β (level-read h index α x)))
 
 -- the counts of operators and rides marked
 unfoldable pub counts : Head → List ℕ → Counts
@@ -57,7 +65,7 @@ counts h marks =
 -- Query
 unfoldable pub board-query : Head → List ℕ → ℕ → ℕ → List ℕ → QueryOutcome
 board-query h index α β marks =
-    elim (query-refusal h index α β marks) [
+    elim (query-refusal h index marks) [
       | zero ↦ record { answer = counts h (query-marks h index α β); marks = over (query-marks h index α β) marks }
       | suc k ↦ record { answer = record { code = suc k; operators = 0; rides = 0 }; marks = marks }
     ]
@@ -82,7 +90,7 @@ peeled g limit allowed marks =
 -- Peel; it clears no mark past the nodes
 unfoldable pub board-peel : Head → List ℕ → List ℕ → List ℕ → ℕ → ℕ → ℕ → PeelOutcome
 board-peel h operators rides marks α β allowed =
-    elim (peel-refusal h operators rides marks α β) [
-      | zero ↦ peeled (graph h operators rides) (limits (graph h operators rides) α β) allowed marks
+    elim (peel-refusal h operators rides marks) [
+      | zero ↦ peeled (graph h operators rides) (limits (h .operators) α β) allowed marks
       | suc k ↦ record { answer = record { code = suc k; settled = 0; steps = 0 }; marks = marks }
     ]

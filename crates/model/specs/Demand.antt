@@ -1,14 +1,14 @@
--- What documents 000 and 01 say of the definitions, as statements for every graph, limit and starting set: proofs/ proves each record.
+-- What documents 000, 01 and 02 say of the definitions, as statements for every graph, limit and starting set: proofs/ proves each record.
 use mathlib.Core.Path.{_≡_}
 use mathlib.Core.Logic.{_↔_, _≢_}
-use mathlib.Core.Bool.{Bool, not}
+use mathlib.Core.Bool.{Bool, false, _&&_, not}
 use mathlib.Core.List.{List, [], _∷_, _++_}
 use Prim.Native.Nat.{ℕ, _+_, _-_, _*_, _≤_, _<_, max}
-use lib.Dec.{T}
+use lib.Dec.{T, leb}
 use lib.ListN.{length, getD, set, drop}
 use Rattle.model.specs.declared.Head.{Head}
 use Rattle.model.specs.Count.{count, some}
-use Rattle.model.specs.Graph.{Graph, nodes, degree, everybody, Inside, Largest, limits, Core, marked, short, settled, removals, peel, cover, level, index-of}
+use Rattle.model.specs.Graph.{Graph, nodes, degree, everybody, Inside, Largest, limits, Core, marked, short, settled, removals, peel, cover, level, row-for, in-by-level, index-of}
 use Rattle.model.specs.Layout.{Index, Board, mark-places, sized, graph, board-graph}
 use Rattle.model.specs.Refusal.{build-refusal, peel-refusal}
 use Rattle.model.specs.Calls.{QueryOutcome, PeelOutcome, query-marks, board-build, board-query, board-peel}
@@ -52,12 +52,12 @@ pub record PeelLaws : Type 0 where
   -- marks past the nodes stay
   pub tail : (g : Graph) (limit : ℕ → ℕ) (f : ℕ) (s : List ℕ) → drop (nodes g) (peel g limit f s) ≡ drop (nodes g) s
 
--- Cover (α, β) is the (α, β)-core of Definition 2.1, also for limits 0; covers nest in α and in β
+-- Cover (α, β) is the (α, β)-core of Definition 2.1, with limits from 0; covers nest in α and in β
 pub record CoverLaws : Type 0 where
   pub core : (g : Graph) (α β : ℕ) → Core g α β (marked (cover g α β))
   -- a settled peel from all ones leaves it, whatever lies behind the nodes' marks
-  pub peeled : (g : Graph) (α β f : ℕ) (s : List ℕ) → AllOnes g s → T (settled g (limits g α β) (peel g (limits g α β) f s)) →
-      Core g α β (marked (peel g (limits g α β) f s))
+  pub peeled : (g : Graph) (α β f : ℕ) (s : List ℕ) → AllOnes g s →
+      T (settled g (limits (g .operators) α β) (peel g (limits (g .operators) α β) f s)) → Core g α β (marked (peel g (limits (g .operators) α β) f s))
   pub nest : (g : Graph) (α α′ β β′ : ℕ) → α ≤ α′ → β ≤ β′ → Inside g (marked (cover g α′ β′)) (marked (cover g α β))
 
 -- the graph g with other clearances
@@ -68,6 +68,8 @@ changed g c = record { operators = g .operators; rides = g .rides; cleared = c }
 pub record LevelLaws : Type 0 where
   -- x is in cover (α, β) exactly if β is at most its level in row α
   pub holds : (g : Graph) (α β x : ℕ) → 1 ≤ α → 1 ≤ β → x < nodes g → T (marked (cover g α β) x) ↔ (β ≤ level g α x)
+  -- with limits from 0: exactly if its own limit is 0, or its level in row α, row 1 for α = 0, is at least β, and at least 1
+  pub from-zero : (g : Graph) (α β x : ℕ) → x < nodes g → marked (cover g α β) x ≡ in-by-level (limits (g .operators) α β x) β (level g (row-for α) x)
   -- levels depend on the clearances below the sizes and on nothing else
   pub same : (g : Graph) (c : ℕ → ℕ → Bool) → ((u v : ℕ) → u < g .operators → v < g .rides → g .cleared u v ≡ c u v) →
       (α x : ℕ) → x < nodes g → level (changed g c) α x ≡ level g α x
@@ -77,12 +79,27 @@ pub record LevelLaws : Type 0 where
   -- row α starts at (α − 1) × (operators + rides)
   pub place : (g : Graph) (α x : ℕ) → 1 ≤ α → α ≤ g .rides → x < nodes g → getD (index-of g) ((α - 1) * nodes g + x) 0 ≡ level g α x
 
--- Demand 2 for queries: on the index of any clearances of the head's sizes the marks are the (α, β)-core, for every α and β from 1
+-- Document 02, 2.1, sentence by sentence, of what a query marks on any index; ride v is node operators + v
+pub record ZeroIsNoLimit (h : Head) (index : List ℕ) : Type 0 where
+  -- with α = 0 all operators are in, and a ride is in if its row 1 level is at least β
+  pub all-operators : (β u : ℕ) → u < h .operators → T (marked (query-marks h index 0 β) u)
+  pub rides-by-row-1 : (β v : ℕ) → v < h .rides → marked (query-marks h index 0 β) (h .operators + v) ≡ leb β (getD index (h .operators + v) 0)
+  -- with β = 0 all rides are in, and an operator is in if its row α level is at least 1
+  pub all-rides : (α v : ℕ) → v < h .rides → T (marked (query-marks h index α 0) (h .operators + v))
+  pub operators-by-row : (α u : ℕ) → 1 ≤ α → α ≤ h .rides → u < h .operators →
+      marked (query-marks h index α 0) u ≡ leb 1 (getD index ((α - 1) * mark-places h + u) 0)
+  -- for α above rides β = 0 marks the rides alone
+  pub rides-alone : (α u : ℕ) → h .rides < α → u < h .operators → marked (query-marks h index α 0) u ≡ false
+  -- with both 0 everyone is in
+  pub everyone : (x : ℕ) → x < mark-places h → T (marked (query-marks h index 0 0) x)
+  -- limits from 1 are document 01's: the row α level is at least β, and α above rides marks nobody
+  pub from-one : (α β x : ℕ) → 1 ≤ α → 1 ≤ β → x < mark-places h →
+      marked (query-marks h index α β) x ≡ (leb α (h .rides) && leb β (getD index ((α - 1) * mark-places h + x) 0))
+
+-- Demand 2 for queries: on the index of any clearances of the head's sizes the marks are the (α, β)-core, for every α and β from 0
 abbrev pub QueryIsCore : Type 0
 QueryIsCore =
     (h : Head) (cleared : ℕ → ℕ → Bool) (α β : ℕ) →
-    1 ≤ α →
-    1 ≤ β →
     Core (sized h cleared) α β (marked (query-marks h (index-of (sized h cleared)) α β))
 
 -- what a query gives is the (α, β)-core, with its sizes
@@ -98,8 +115,6 @@ IndexThenQuery =
     (h : Head) (cleared : ℕ → ℕ → Bool) (more : List ℕ) (α β : ℕ) (marks : List ℕ) →
     h .operators ≤ 200 →
     h .rides ≤ 60 →
-    1 ≤ α →
-    1 ≤ β →
     mark-places h ≤ length marks →
     IsCore (sized h cleared) α β (board-query h (index-of (sized h cleared) ++ more) α β marks)
 
@@ -108,8 +123,6 @@ abbrev pub BuildThenQuery : Type 0
 BuildThenQuery =
     (b : Board) (start α β : ℕ) (marks : List ℕ) →
     build-refusal b start ≡ 0 →
-    1 ≤ α →
-    1 ≤ β →
     mark-places (b .head) ≤ length marks →
     IsCore (board-graph b) α β (board-query (b .head) (board-build b start .board .part Index) α β marks)
 
@@ -125,7 +138,7 @@ pub record IsPeeledCore (g : Graph) (α β allowed : ℕ) (o : PeelOutcome) : Ty
 abbrev pub PeelIsCore : Type 0
 PeelIsCore =
     (h : Head) (operators rides marks : List ℕ) (α β allowed : ℕ) →
-    peel-refusal h operators rides marks α β ≡ 0 →
+    peel-refusal h operators rides marks ≡ 0 →
     AllOnes (graph h operators rides) marks →
     IsPeeledCore (graph h operators rides) α β allowed (board-peel h operators rides marks α β allowed)
 

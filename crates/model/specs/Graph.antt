@@ -1,9 +1,9 @@
--- Document 000, Definition 2.1, and document 01, Terms and Peel: degree, the largest set under limits, peel, cover, level, index.
+-- Document 000, Definition 2.1; document 01, Terms and Peel; document 02, 2.1: degree, the largest set under limits, peel, cover, level, index.
 -- Nodes are numbered as marks and index rows are: operators 0 .. operators - 1, then rides.
-use mathlib.Core.Bool.{Bool, true, false, _&&_, not}
+use mathlib.Core.Bool.{Bool, true, false, _&&_, _||_, not}
 use mathlib.Core.List.{List, [], _∷_}
-use Prim.Native.Nat.{ℕ, zero, suc, _+_, _-_, _≤_, _<_}
-use lib.Dec.{T, ltb, eqb}
+use Prim.Native.Nat.{ℕ, zero, suc, _+_, _-_, _≤_, _<_, max}
+use lib.Dec.{T, ltb, leb, eqb}
 use lib.ListN.{getD, set, replicate}
 use Rattle.model.specs.Count.{count, some, lowest, values, rows}
 
@@ -43,13 +43,13 @@ pub record Largest (g : Graph) (limit : ℕ → ℕ) (start s : ℕ → Bool) : 
   pub meets : Meets g limit s
   pub largest : (t : ℕ → Bool) → Inside g t start → Meets g limit t → Inside g t s
 
--- the limits of a cover (α, β): α for operators, β for rides
-unfoldable pub limits : Graph → ℕ → ℕ → ℕ → ℕ
-limits g α β x = elim (ltb x (g .operators)) [ true ↦ α | false ↦ β ]
+-- the limits of a cover (α, β), with so many operators: α for operators, β for rides; 0 is no limit
+unfoldable pub limits : ℕ → ℕ → ℕ → ℕ → ℕ
+limits operators α β x = elim (ltb x operators) [ true ↦ α | false ↦ β ]
 
 -- Definition 2.1: s is the (α, β)-core
 abbrev pub Core : Graph → ℕ → ℕ → (ℕ → Bool) → Type 0
-Core g α β s = Largest g (limits g α β) everybody s
+Core g α β s = Largest g (limits (g .operators) α β) everybody s
 
 -- the set that Marks stand for: 1 is in
 abbrev pub marked : List ℕ → ℕ → Bool
@@ -83,7 +83,7 @@ peel g limit f s = without s (removals g limit f s)
 
 -- Cover (α, β), as marks: the peel from all ones
 unfoldable pub cover : Graph → ℕ → ℕ → List ℕ
-cover g α β = peel g (limits g α β) (nodes g) (replicate (nodes g) 1)
+cover g α β = peel g (limits (g .operators) α β) (nodes g) (replicate (nodes g) 1)
 
 -- the largest β from 1 to b whose cover (α, β) holds x, or 0 if none does
 unfoldable pub level-to : Graph → ℕ → ℕ → ℕ → ℕ
@@ -93,6 +93,14 @@ level-to g α x (suc b) = elim (marked (cover g α (suc b)) x) [ true ↦ suc b 
 -- Level of x in row α: no cover from α = 1 on holds anybody with β above the number of operators
 unfoldable pub level : Graph → ℕ → ℕ → ℕ
 level g α x = level-to g α x (g .operators)
+
+-- Document 02, 2.1: the row by which a cover (α, β) is read off: row α, or row 1 for α = 0
+abbrev pub row-for : ℕ → ℕ
+row-for α = max α 1
+
+-- Document 02, 2.1: who is in by its level in that row: with the limit 0 everybody, else whoever has at least level β, and at least level 1
+abbrev pub in-by-level : ℕ → ℕ → ℕ → Bool
+in-by-level limit β level = eqb limit 0 || leb (max β 1) level
 
 -- row α of the Index: the levels of the operators, then of the rides
 unfoldable pub row : Graph → ℕ → List ℕ

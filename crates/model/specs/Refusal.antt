@@ -1,4 +1,5 @@
 -- Document 01, What the controller is told: one test for each of the numbers 1 to 12, and the numbers that each call checks.
+-- Document 02, 2.1: 11 is never given.
 use mathlib.Core.Bool.{Bool, true, false, _&&_, _||_, not}
 use mathlib.Core.List.{List, [], _∷_, _++_}
 use Prim.Native.Nat.{ℕ, zero, suc, _+_}
@@ -70,10 +71,6 @@ refused-9 stamp = eqb stamp 0
 unfoldable pub refused-10 : Board → Message → Bool
 refused-10 b m = not (later (entry m) (contents b (slot m)))
 
--- 11: α or β is 0
-abbrev pub refused-11 : ℕ → ℕ → Bool
-refused-11 α β = eqb α 0 || eqb β 0
-
 -- 12: peel: a mark in use is not 0 or 1
 unfoldable pub refused-12 : Head → List ℕ → Bool
 refused-12 h marks = some (mark-places h) (λ x. ltb 1 (getD marks x 0))
@@ -97,11 +94,11 @@ unfoldable pub build-refusal : Board → ℕ → ℕ
 build-refusal b start =
     first-number (table-cases (b .head) (board-short b) (b .part Operators) (b .part Rides) ++ (9, refused-9 start) ∷ [])
 
--- query: 1 to 3 and 11
-unfoldable pub query-refusal : Head → List ℕ → ℕ → ℕ → List ℕ → ℕ
-query-refusal h index α β marks =
+-- query: 1 to 3
+unfoldable pub query-refusal : Head → List ℕ → List ℕ → ℕ
+query-refusal h index marks =
     first-number
-    ((1, refused-1 h) ∷ (2, refused-2 h) ∷ (3, refused-3 (index-places h) index || refused-3 (mark-places h) marks) ∷ (11, refused-11 α β) ∷ [])
+    ((1, refused-1 h) ∷ (2, refused-2 h) ∷ (3, refused-3 (index-places h) index || refused-3 (mark-places h) marks) ∷ [])
 
 -- 1 to 6, of a board; too-short is the call's own 3
 abbrev pub board-cases : Board → Bool → List (ℕ × Bool)
@@ -121,9 +118,9 @@ message-refusal b m = first-number (board-cases b (board-short b) ++ message-cas
 unfoldable pub list-refusal : Board → ℕ → List ℕ → ℕ
 list-refusal b messages answers = first-number (board-cases b (board-short b || refused-3 messages answers))
 
--- peel: 1 to 5, 11, 12
-unfoldable pub peel-refusal : Head → List ℕ → List ℕ → List ℕ → ℕ → ℕ → ℕ
-peel-refusal h operators rides marks α β =
+-- peel: 1 to 5 and 12
+unfoldable pub peel-refusal : Head → List ℕ → List ℕ → List ℕ → ℕ
+peel-refusal h operators rides marks =
     first-number
     (table-cases h (refused-3 (pair-places h) operators || refused-3 (pair-places h) rides || refused-3 (mark-places h) marks) operators rides ++
-    (11, refused-11 α β) ∷ (12, refused-12 h marks) ∷ [])
+    (12, refused-12 h marks) ∷ [])

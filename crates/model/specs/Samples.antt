@@ -1,12 +1,12 @@
 -- Document 01, Samples on that board: those with a star, one table. Each row has what the definitions give, and what document 01 says.
--- The last row, "Built at stamp 5", has no star.
+-- The last row, "Built at stamp 5", has no star. A second table has limits of 0: document 02, 2.1.
 use mathlib.Core.Path.{_≡_}
-use mathlib.Core.List.{List, [], _∷_}
+use mathlib.Core.List.{List, [], _∷_, _++_}
 use Prim.Native.Nat.{ℕ, _-_, _*_}
 use lib.ListN.{getD, take, drop, replicate}
 use Rattle.model.specs.Graph.{Graph, limits, removals, cover, row}
-use Rattle.model.specs.Layout.{Operators, Rides, Index, Board, lent, board-graph}
-use Rattle.model.specs.Calls.{PeelOutcome, board-build, board-peel}
+use Rattle.model.specs.Layout.{Operators, Rides, Index, Board, mark-places, lent, board-graph}
+use Rattle.model.specs.Calls.{PeelOutcome, board-build, board-query, board-peel}
 use Rattle.model.specs.Message.{MessageOutcome, board-message}
 
 -- document 01's board as it is lent to a build: words of no meaning stand behind the pairs, in the stamps and in the index
@@ -60,7 +60,7 @@ samples =
     (row board 3, 0 ∷ 0 ∷ 0 ∷ 0 ∷ 0 ∷ 0 ∷ 0 ∷ []) ∷
     (cover board 1 3, 1 ∷ 1 ∷ 1 ∷ 0 ∷ 0 ∷ 1 ∷ 0 ∷ []) ∷
     (cover board 1 4, 0 ∷ 0 ∷ 0 ∷ 0 ∷ 0 ∷ 0 ∷ 0 ∷ []) ∷
-    (removals board (limits board 2 2) 7 (replicate 7 1), 3 ∷ 6 ∷ 2 ∷ []) ∷
+    (removals board (limits 4 2 2) 7 (replicate 7 1), 3 ∷ 6 ∷ 2 ∷ []) ∷
     (answer (peel-2-2 (replicate 7 1) 2), 0 ∷ 0 ∷ 2 ∷ []) ∷
     (answer (peel-2-2 (replicate 7 1) 3), 0 ∷ 1 ∷ 3 ∷ []) ∷
     (answer (peel-2-2 (cover board 2 2) 0), 0 ∷ 1 ∷ 0 ∷ []) ∷
@@ -72,6 +72,46 @@ samples =
           sent (sent (built-at 5) 2 0 0 5 .board) 1 0 0 6 .answer .code ∷ [],
       10 ∷ 0 ∷ 0 ∷ [],
     ) ∷
+    []
+
+-- what a query gives on a board just built: its number, its counts, and the marks
+abbrev asked : Board → ℕ → ℕ → List ℕ
+asked b α β =
+    let o = board-query (b .head) (board-build b 1 .board .part Index) α β (replicate (mark-places (b .head)) 9) in
+    o .answer .code ∷ o .answer .operators ∷ o .answer .rides ∷ o .marks
+
+-- the marks that a peel from all ones leaves
+abbrev left : Board → ℕ → ℕ → List ℕ
+left b α β =
+    board-peel (b .head) (b .part Operators) (b .part Rides) (replicate (mark-places (b .head)) 1) α β (mark-places (b .head)) .marks
+
+-- a row for limits (α, β): what a query and a peel give, and the counts and marks that both should have
+abbrev limits-row : Board → ℕ → ℕ → ℕ → ℕ → List ℕ → List ℕ × List ℕ
+limits-row b α β operators rides marks = (asked b α β ++ left b α β, (0 ∷ operators ∷ rides ∷ marks) ++ marks)
+
+-- boards of two operators and no ride, and of no operator and two rides
+abbrev no-rides : Board
+no-rides = lent (record { operators = 2; rides = 0; pairs = 0 }) [] [] [] []
+
+abbrev no-operators : Board
+no-operators = lent (record { operators = 0; rides = 2; pairs = 0 }) [] [] [] (replicate 4 9)
+
+-- limits of 0, by hand from rows 1 and 2 above:
+-- (0,2) all operators, and the rides of level 2 in row 1: all. (2,0) all rides, and the operators of level 1 in row 2: 0, 1, 2. (0,0) everyone.
+-- (0,3) all operators, and the rides of level 3 in row 1: ride 1. (4,0), (9,0) the rides alone: there is no such row.
+-- No rides: (0,5) all operators; (1,0) nobody. No operators: (3,0) all rides; (0,1) nobody, for a ride has no operator.
+unfoldable pub zero-samples : List (List ℕ × List ℕ)
+zero-samples =
+    limits-row table 0 2 4 3 (1 ∷ 1 ∷ 1 ∷ 1 ∷ 1 ∷ 1 ∷ 1 ∷ []) ∷
+    limits-row table 2 0 3 3 (1 ∷ 1 ∷ 1 ∷ 0 ∷ 1 ∷ 1 ∷ 1 ∷ []) ∷
+    limits-row table 0 0 4 3 (1 ∷ 1 ∷ 1 ∷ 1 ∷ 1 ∷ 1 ∷ 1 ∷ []) ∷
+    limits-row table 0 3 4 1 (1 ∷ 1 ∷ 1 ∷ 1 ∷ 0 ∷ 1 ∷ 0 ∷ []) ∷
+    limits-row table 4 0 0 3 (0 ∷ 0 ∷ 0 ∷ 0 ∷ 1 ∷ 1 ∷ 1 ∷ []) ∷
+    limits-row table 9 0 0 3 (0 ∷ 0 ∷ 0 ∷ 0 ∷ 1 ∷ 1 ∷ 1 ∷ []) ∷
+    limits-row no-rides 0 5 2 0 (1 ∷ 1 ∷ []) ∷
+    limits-row no-rides 1 0 0 0 (0 ∷ 0 ∷ []) ∷
+    limits-row no-operators 3 0 0 2 (1 ∷ 1 ∷ []) ∷
+    limits-row no-operators 0 1 0 0 (0 ∷ 0 ∷ []) ∷
     []
 
 -- in each row of a table the two lists are equal

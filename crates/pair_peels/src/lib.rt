@@ -66,7 +66,7 @@ pub fn peel_over(
     ensures { λ r. ⌜
         Gives
         (peeled (graph head (now (operators .entry)) (now (rides .entry)))
-        (cover-limits (graph head (now (operators .entry)) (now (rides .entry))) alpha beta) steps (now (marks .entry)))
+        (cover-limits (head .operators) alpha beta) steps (now (marks .entry)))
         r (now (marks .exit))
         ⌝ }
 {

@@ -45,27 +45,14 @@ fn bad_marks(head: Head, marks: &[u16]) -> bool
     false
 }
 
-// 1 to 5, 11 and 12.
-pub fn peel_number(
-    head: Head,
-    operators: &[u16],
-    rides: &[u16],
-    marks: &[u16],
-    alpha: u16,
-    beta: u16,
-) -> u16
-    ensures { λ r. ⌜ r ≡ peel-refusal head (now (operators .entry)) (now (rides .entry)) (now (marks .entry)) alpha beta ⌝ }
+// 1 to 5 and 12.
+pub fn peel_number(head: Head, operators: &[u16], rides: &[u16], marks: &[u16]) -> u16
+    ensures { λ r. ⌜ r ≡ peel-refusal head (now (operators .entry)) (now (rides .entry)) (now (marks .entry)) ⌝ }
 {
     let short = short_peel(head, operators, rides, marks);
     let number = table_number(head, short, operators, rides);
     if number != 0 {
         return number;
-    }
-    if alpha == 0 {
-        return 11;
-    }
-    if beta == 0 {
-        return 11;
     }
     if bad_marks(head, marks) {
         return 12;

@@ -10,7 +10,7 @@ use Rattle.model.specs.declared.Head.{Head}
 use Rattle.model.specs.declared.Peeled.{Peeled}
 use Rattle.model.specs.Graph.{limits}
 use Rattle.model.specs.Layout.{pair-places, mark-places, graph}
-use Rattle.model.specs.Refusal.{refused-1, refused-2, refused-4, refused-5, refused-11, refused-12, peel-refusal}
+use Rattle.model.specs.Refusal.{refused-1, refused-2, refused-4, refused-5, refused-12, peel-refusal}
 use Rattle.model.specs.Calls.{peeled, board-peel}
 use Rattle.model.proofs.Count.{some-holds}
 use Rattle.model.proofs.Chain.{first-none, enough}
@@ -19,21 +19,21 @@ use Rattle.pair_peels.specs.Peel.{Gives}
 use Rattle.peel_refusals.proofs.Chain.{short-parts, peel-long}
 use Rattle.model.specs.Outcome.{peel-left}
 
-module _ (h : Head) (operators rides marks : List ℕ) (α β : ℕ) where
+module _ (h : Head) (operators rides marks : List ℕ) where
   marks-fit : (T (refused-12 h marks) → ⊥) → (x : ℕ) → x < mark-places h → getD marks x 0 ≤ 1
   unfolding refused-12
   marks-fit n x k = enough 1 (getD marks x 0) (λ t. n (some-holds (λ (y : ℕ). ltb 1 (getD marks y 0)) (mark-places h) x k t))
 
   -- a peel that is refused
-  pub peel-refused : (steps k : ℕ) → k ≡ peel-refusal h operators rides marks α β → k ≢ 0 → peel-left (record { code = k; settled = 0; steps = 0 }) marks ≡ board-peel h operators rides marks α β steps
+  pub peel-refused : (α β steps k : ℕ) → k ≡ peel-refusal h operators rides marks → k ≢ 0 → peel-left (record { code = k; settled = 0; steps = 0 }) marks ≡ board-peel h operators rides marks α β steps
   unfolding board-peel
-  peel-refused steps zero e n = absurd (n refl)
-  peel-refused steps (suc k) e n = rw (sym e, board-peel)
+  peel-refused α β steps zero e n = absurd (n refl)
+  peel-refused α β steps (suc k) e n = rw (sym e, board-peel)
 
-  module _ (none : peel-refusal h operators rides marks α β ≡ 0) where
-    pub peel-done : (steps : ℕ) (r : Peeled) (marks′ : List ℕ) → Gives (peeled (graph h operators rides) (limits (graph h operators rides) α β) steps marks) r marks′ → peel-left r marks′ ≡ board-peel h operators rides marks α β steps
+  module _ (none : peel-refusal h operators rides marks ≡ 0) where
+    pub peel-done : (α β steps : ℕ) (r : Peeled) (marks′ : List ℕ) → Gives (peeled (graph h operators rides) (limits (h .operators) α β) steps marks) r marks′ → peel-left r marks′ ≡ board-peel h operators rides marks α β steps
     unfolding board-peel
-    peel-done steps r marks′ g = rw (none, board-peel) (ap₂ (λ (x : Peeled) (y : List ℕ). peel-left x y) (g .answer) (g .marks))
+    peel-done α β steps r marks′ g = rw (none, board-peel) (ap₂ (λ (x : Peeled) (y : List ℕ). peel-left x y) (g .answer) (g .marks))
 
     -- what the numbers that don't apply say
     pub peel-accepted : AcceptedPairs h operators rides × (mark-places h ≤ length marks) × ((x : ℕ) → x < mark-places h → getD marks x 0 ≤ 1)
@@ -44,8 +44,7 @@ module _ (h : Head) (operators rides marks : List ℕ) (α β : ℕ) where
         let n3 = first-none 2 (short-parts h operators rides marks) _ (n2 .1) in
         let n4 = first-none 3 (refused-4 h) _ (n3 .1) in
         let n5 = first-none 4 (refused-5 h operators rides) _ (n4 .1) in
-        let n6 = first-none 10 (refused-11 α β) _ (n5 .1) in
-        let n7 = first-none 11 (refused-12 h marks) _ (n6 .1) in
+        let n6 = first-none 11 (refused-12 h marks) _ (n5 .1) in
         let l = peel-long h operators rides marks (n3 .0) in
         let fit = enough (pair-places h) (h .pairs) (n4 .0) in (
           record {
@@ -56,5 +55,5 @@ module _ (h : Head) (operators rides marks : List ℕ) (α β : ℕ) where
             ordered = n5 .0;
           },
           l .2,
-          marks-fit (n7 .0),
+          marks-fit (n6 .0),
         )

@@ -17,7 +17,7 @@ pub fn peel(
 ) -> Peeled
     ensures { λ r. ⌜ peel-left r (now (marks .exit)) ≡ board-peel head (now (operators .entry)) (now (rides .entry)) (now (marks .entry)) alpha beta steps ⌝ }
 {
-    let number = peel_refusals::peel_number(head, operators, rides, marks, alpha, beta);
+    let number = peel_refusals::peel_number(head, operators, rides, marks);
     if number != 0 {
         return Peeled {
             code: number,

@@ -5,11 +5,11 @@ ghost use Rattle.model.specs.Outcome.{queried};
 use model::Counts;
 use model::Head;
 
-// Sets a mark to 1 exactly if the level in row alpha is at least beta, and answers the counts of operators and rides marked.
+// Marks who is in cover (alpha, beta) by the index, and answers the counts of operators and rides marked. Without such a row the levels are 0.
 pub fn query(head: Head, index: &[u16], alpha: u16, beta: u16, marks: &mut [u16]) -> Counts
     ensures { λ r. ⌜ queried r (now (marks .exit)) ≡ board-query head (now (index .entry)) alpha beta (now (marks .entry)) ⌝ }
 {
-    let number = refusals::query_number(head, index, alpha, beta, marks);
+    let number = refusals::query_number(head, index, marks);
     if number != 0 {
         return Counts {
             code: number,
@@ -19,14 +19,13 @@ pub fn query(head: Head, index: &[u16], alpha: u16, beta: u16, marks: &mut [u16]
     }
     let n = head.operators as usize;
     let w = n + head.rides as usize;
-    if head.rides < alpha {
-        words::fill(marks, 0, w, 0);
-        return Counts {
-            code: 0,
-            operators: 0,
-            rides: 0,
-        };
+    let row = members::row(alpha);
+    let operator_least = members::least(alpha, beta);
+    let ride_least = members::least(beta, beta);
+    if head.rides < row {
+        let zeros = [0u16; 260];
+        return marks::mark_row(&zeros[0..w], n, operator_least, ride_least, marks);
     }
-    let at = (alpha as usize - 1) * w;
-    marks::mark_row(&index[at..at + w], n, beta, marks)
+    let at = (row as usize - 1) * w;
+    marks::mark_row(&index[at..at + w], n, operator_least, ride_least, marks)
 }

@@ -103,15 +103,15 @@ unfolding first-number
 first-twice k true b cs = refl
 first-twice k false b cs = refl
 
--- what `lowest` gives: a number where it applies, else the one after it
+-- what `first` gives: a number where it applies, else the one after it
 abbrev pub First : ℕ → Bool → ℕ → ℕ → Type 0
 First k t after r = (cs : List (ℕ × Bool)) → after ≡ first-number cs → r ≡ first-number ((k, t) ∷ cs)
 
-module _ (h : Head) (index : List ℕ) (α β : ℕ) (marks : List ℕ) (r₁ r₂ r₃ r₄ r₅ r₆ : ℕ) where
-  pub query-first : First 11 (eqb β 0) 0 r₁ → First 11 (eqb α 0) r₁ r₂ → First 3 (ltb (length marks) (mark-places h)) r₂ r₃ → First 3 (ltb (length index) (index-places h)) r₃ r₄ → First 2 (refused-2 h) r₄ r₅ → First 1 (refused-1 h) r₅ r₆ → r₆ ≡ query-refusal h index α β marks
+module _ (h : Head) (index : List ℕ) (marks : List ℕ) (r₁ r₂ r₃ r₄ : ℕ) where
+  pub query-first : First 3 (ltb (length marks) (mark-places h)) 0 r₁ → First 3 (ltb (length index) (index-places h)) r₁ r₂ → First 2 (refused-2 h) r₂ r₃ → First 1 (refused-1 h) r₃ r₄ → r₄ ≡ query-refusal h index marks
   unfolding query-refusal
-  query-first l₁ l₂ l₃ l₄ l₅ l₆ =
-      l₆ _ (l₅ _ (l₄ _ (l₃ _ (l₂ _ (l₁ [] (sym first-nil)) ∙ first-twice 11 (eqb α 0) (eqb β 0) [])) ∙ first-twice 3 (refused-3 (index-places h) index) (refused-3 (mark-places h) marks) _))
+  query-first l₁ l₂ l₃ l₄ =
+      l₄ _ (l₃ _ (l₂ _ (l₁ [] (sym first-nil)) ∙ first-twice 3 (refused-3 (index-places h) index) (refused-3 (mark-places h) marks) []))
 
 -- where none of 1 to 5 applies, no part is too short
 pub table-long : (h : Head) (short : Bool) (operators rides : List ℕ) → first-number (table-cases h short operators rides) ≡ 0 → T short → ⊥

@@ -91,17 +91,16 @@ fn first(applies: bool, number: u16, after: u16) -> u16
     after
 }
 
-// 1 to 3 and 11. All are tested, without a branch between them (docs/DECISIONS.md).
-pub fn query_number(head: Head, index: &[u16], alpha: u16, beta: u16, marks: &[u16]) -> u16
-    ensures { λ r. ⌜ r ≡ query-refusal head (now (index .entry)) alpha beta (now (marks .entry)) ⌝ }
+// 1 to 3. All are tested, without a branch between them (docs/DECISIONS.md).
+pub fn query_number(head: Head, index: &[u16], marks: &[u16]) -> u16
+    ensures { λ r. ⌜ r ≡ query-refusal head (now (index .entry)) (now (marks .entry)) ⌝ }
 {
     let n = head.operators as usize;
     let m = head.rides as usize;
-    let zero = first(alpha == 0, 11, first(beta == 0, 11, 0));
     let short = first(
         index.len() < m * (n + m),
         3,
-        first(marks.len() < n + m, 3, zero),
+        first(marks.len() < n + m, 3, 0),
     );
     first(200 < head.operators, 1, first(60 < head.rides, 2, short))
 }

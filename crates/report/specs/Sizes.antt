@@ -15,7 +15,7 @@ pub record Sizes (h : Head) : Type 0 where
 -- the output for a pair table, once its sizes are checked
 abbrev pub table-text : Head → List ℕ → List ℕ → ℕ → ℕ → List ℕ
 table-text h operators rides α β =
-    printed (first-number (content-cases h operators rides α β)) (cover-lines h operators rides α β)
+    printed (first-number (content-cases h operators rides)) (cover-lines h operators rides α β)
 
 -- the output for an input with the head h, once the sizes are checked
 abbrev pub input-text : List ℕ → Head → List ℕ

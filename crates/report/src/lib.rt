@@ -26,7 +26,7 @@ fn fill_levels(h: Head, operators: &[u16], rides: &[u16], alpha: u16, row: &mut 
     }
 }
 
-// The lines of the cover, from a row of zeros that becomes row α.
+// The lines of the cover, from a row of zeros that becomes row α, or row 1 for α = 0.
 fn put_lines(
     out: &mut [u8],
     h: Head,
@@ -36,11 +36,11 @@ fn put_lines(
     beta: u16,
     row: &mut [u16],
 ) -> usize
-    requires { ⌜ AcceptedPairs h (now operators) (now rides) × (1 ≤ alpha) × (1 ≤ beta) × (length (now row) ≡ mark-places h) × (5490 ≤ length (now out)) ⌝ }
+    requires { ⌜ AcceptedPairs h (now operators) (now rides) × (length (now row) ≡ mark-places h) × (5490 ≤ length (now out)) ⌝ }
     requires { ⌜ ((k : ℕ) → getD (now row) k 0 ≡ 0) ⌝ }
     ensures { λ r. ⌜ Wrote (now (out .entry)) 0 (cover-lines h (now (operators .entry)) (now (rides .entry)) alpha beta) 5490 (now (out .exit)) r ⌝ }
 {
-    fill_levels(h, operators, rides, alpha, row);
+    fill_levels(h, operators, rides, members::row(alpha), row);
     lines::put_cover(out, 0, alpha, beta, h.operators, h.rides, row)
 }
 
@@ -58,12 +58,6 @@ fn answer_table(
 {
     if !pairs::ascending(h, operators, rides) {
         return text::put_refusal(out, 0, 5);
-    }
-    if alpha == 0 {
-        return text::put_refusal(out, 0, 11);
-    }
-    if beta == 0 {
-        return text::put_refusal(out, 0, 11);
     }
     let mut row = [0u16; 260];
     let nodes = (h.operators + h.rides) as usize;

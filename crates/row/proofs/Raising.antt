@@ -40,7 +40,7 @@ module _ (n : ℕ) (operators rides : List ℕ) where
 -- ---- a set that shrinks
 
 -- from s to s′ only nodes leave that fall short of (α, β) in s
-module _ (g : Graph) (α β : ℕ) (a : 1 ≤ α) (b : 1 ≤ β) (s s′ : ℕ → Bool) (short : (x : ℕ) → x < nodes g → T (s x) → (T (s′ x) → ⊥) → degree g s x < limits g α β x) (holds : Inside g (marked (cover g α β)) s) (within : 2 ≤ β → Inside g s (marked (cover g α (β - 1)))) where
+module _ (g : Graph) (α β : ℕ) (a : 1 ≤ α) (b : 1 ≤ β) (s s′ : ℕ → Bool) (short : (x : ℕ) → x < nodes g → T (s x) → (T (s′ x) → ⊥) → degree g s x < limits (g .operators) α β x) (holds : Inside g (marked (cover g α β)) s) (within : 2 ≤ β → Inside g s (marked (cover g α (β - 1)))) where
   -- who leaves is not in the cover
   leaves-out : (x : ℕ) → x < nodes g → T (s x) → (T (s′ x) → ⊥) → T (marked (cover g α β) x) → ⊥
   leaves-out x h t n c =
@@ -89,7 +89,7 @@ module _ (g : Graph) (α β : ℕ) (a : 1 ≤ α) (b : 1 ≤ β) (s s′ : ℕ �
     (s-is : (i : ℕ) → i < size → s (e i) ≡ marked kept i)
     (s′-is : (i : ℕ) → i < size → s′ (e i) ≡ marked kept′ i)
     (degree-is : (i : ℕ) → i < size → degree g s (e i) ≡ getD degrees i 0)
-    (limit-is : (i : ℕ) → i < size → limits g α β (e i) ≡ limit)
+    (limit-is : (i : ℕ) → i < size → limits (g .operators) α β (e i) ≡ limit)
     (kept-is : (i : ℕ) → i < size → marked kept′ i ≡ (marked kept i && leb limit (getD degrees i 0)))
     (part-is : (i : ℕ) → i < size → getD part i 0 ≡ getD l (e i) 0)
     (part′-is : (i : ℕ) → i < size → getD l′ (e i) 0 ≡ getD part′ i 0)
@@ -105,10 +105,10 @@ module _ (g : Graph) (α β : ℕ) (a : 1 ≤ α) (b : 1 ≤ β) (s s′ : ℕ �
         | no k ↦ absurd (n (subst T (sym (s′-is i h ∙ kept-is i h)) (and-both (marked kept i) (leb limit (getD degrees i 0)) (subst T (s-is i h) t) (le→leb limit (getD degrees i 0) (omega arith)))))
       ]
 
-  side-short : (x : ℕ) → x < nodes g → T (s x) → (T (s′ x) → ⊥) → degree g s x < limits g α β x
+  side-short : (x : ℕ) → x < nodes g → T (s x) → (T (s′ x) → ⊥) → degree g s x < limits (g .operators) α β x
   side-short x h t n =
       ⊎-elim
-      (λ w. subst (λ (y : ℕ). degree g s y < limits g α β y) (sym (w .2)) (let f = side-falls (w .0) (w .1) (subst (λ (y : ℕ). T (s y)) (w .2) t) (λ k. n (subst (λ (y : ℕ). T (s′ y)) (sym (w .2)) k)) in omega (arith, f, degree-is (w .0) (w .1), limit-is (w .0) (w .1))))
+      (λ w. subst (λ (y : ℕ). degree g s y < limits (g .operators) α β y) (sym (w .2)) (let f = side-falls (w .0) (w .1) (subst (λ (y : ℕ). T (s y)) (w .2) t) (λ k. n (subst (λ (y : ℕ). T (s′ y)) (sym (w .2)) k)) in omega (arith, f, degree-is (w .0) (w .1), limit-is (w .0) (w .1))))
       (λ w. absurd (n (subst T (w .0) t)))
       (split x h)
 
@@ -226,7 +226,7 @@ module _ (n m : ℕ) (t t′ : List ℕ) (α β : ℕ) (a : 1 ≤ α) (b : 1 ≤
         (λ v h. kept-ride-at n (w .operators) (w .rides) v)
         (λ v h. kept-ride-at n (w .operators) rides v)
         (λ v h. work-ride g α β w raising (n + v) (omega arith) (omega arith) ∙ ap (λ (z : ℕ). getD (w .ride-degrees) z 0) (let e : n + v - n ≡ v = omega arith in e))
-        (λ v h. limits-ride g α β (n + v) (omega arith))
+        (λ v h. limits-ride (g .operators) α β (n + v) (omega arith))
         rides-kept
         part-is
         after
@@ -269,7 +269,7 @@ module _ (n m : ℕ) (t t′ : List ℕ) (α β : ℕ) (a : 1 ≤ α) (b : 1 ≤
         (λ u h. kept-operator n (w .operators) (w .rides) u h)
         (λ u h. kept-operator n operators (w .rides) u h)
         (λ u h. work-operator g α β w raising u h)
-        (λ u h. limits-operator g α β u h)
+        (λ u h. limits-operator (g .operators) α β u h)
         operators-kept
         part-is
         before
@@ -433,11 +433,11 @@ module _ (n m : ℕ) (t t′ : List ℕ) (α : ℕ) (a : 1 ≤ α) (w : Work) (f
     least-high k = least .lowest β k (settled .rides)
 
     -- the nodes kept meet (α, r)
-    least-meets : Meets gʳ (limits gʳ α r) (kept-set n (w .operators) (w .rides))
+    least-meets : Meets gʳ (limits (gʳ .operators) α r) (kept-set n (w .operators) (w .rides))
     least-meets x h k =
         elim (decLt x n) [
-          | yes l ↦ omega (arith, limits-operator gʳ α r x l, work-operator gʳ α β w raising x l, settled .operators x l (subst T (kept-operator n (w .operators) (w .rides) x l) k))
-          | no l ↦ omega (arith, limits-ride gʳ α r x (omega arith), work-ride gʳ α β w raising x (omega arith) h, least .low (x - n) (omega arith) (subst T (kept-ride n (w .operators) (w .rides) x (omega arith)) k))
+          | yes l ↦ omega (arith, limits-operator (gʳ .operators) α r x l, work-operator gʳ α β w raising x l, settled .operators x l (subst T (kept-operator n (w .operators) (w .rides) x l) k))
+          | no l ↦ omega (arith, limits-ride (gʳ .operators) α r x (omega arith), work-ride gʳ α β w raising x (omega arith) h, least .low (x - n) (omega arith) (subst T (kept-ride n (w .operators) (w .rides) x (omega arith)) k))
         ]
 
     pub raising-next : β ≤ r → Raising gʳ α (r + 1) w

@@ -8,15 +8,15 @@ use native.Mathlib.Omega.{arith}
 use borrow.Author.Tests.{le-leb, lt-leb}
 use Rattle.model.specs.Count.{bit, count}
 use Rattle.model.proofs.Count.{count-more}
-use Rattle.lines.specs.Members.{level-at, member-at}
+use Rattle.members.specs.Members.{level-at, member-at}
 use Rattle.lines.proofs.count_members.Statement.{statement}
 use Rattle.lines.proofs.count_members.Tie as tie
 
 abbrev Inv-loop : tie.InvT-loop
-Inv-loop levels first nodes beta members₀ i₀ members i = (i ≤ nodes) × (members ≤ i) × (members ≡ count i (member-at beta levels first))
+Inv-loop levels first nodes least members₀ i₀ members i = (i ≤ nodes) × (members ≤ i) × (members ≡ count i (member-at least levels first))
 
 abbrev μ-loop : tie.MeasureT-loop
-μ-loop levels first nodes beta members₀ i₀ members i = nodes - i
+μ-loop levels first nodes least members₀ i₀ members i = nodes - i
 
 loop-holds : tie.Need-loop-holds Inv-loop μ-loop
 unfolding count
@@ -44,11 +44,11 @@ loop-again : tie.Need-loop-again Inv-loop μ-loop
 loop-again c =
     let a = c .before .before .before .before .args in
     let l = c .before .before .before .loop in
-    let p : ℕ → Bool = member-at (a .beta) (a .levels .now) (a .first) in
+    let p : ℕ → Bool = member-at (a .least) (a .levels .now) (a .first) in
     let word : ℕ = level-at (a .levels .now) (a .first) (l .i) in
     ⊎-elim
-    (λ w. omega (arith, w .1, l .inv .2, count-more p (l .i), ap bit (le-leb (a .beta) word (w .0 .taken))))
-    (λ w. omega (arith, w .1, l .inv .2, count-more p (l .i), ap bit (lt-leb (a .beta) word (w .0 .left))))
+    (λ w. omega (arith, w .1, l .inv .2, count-more p (l .i), ap bit (le-leb (a .least) word (w .0 .taken))))
+    (λ w. omega (arith, w .1, l .inv .2, count-more p (l .i), ap bit (lt-leb (a .least) word (w .0 .left))))
     (c .if1 .came)
 
 returns : tie.Need-returns Inv-loop μ-loop

@@ -6,6 +6,12 @@ use Rattle.text.proofs.Write.{wrote-append, wrote-text, wrote-most}
 use Rattle.lines.proofs.put_cover.Statement.{statement}
 use Rattle.lines.proofs.put_cover.Tie as tie
 
+least-requires : tie.Need-least-requires
+least-requires c κs = search needs
+
+least-requires-2 : tie.Need-least-requires-2
+least-requires-2 c κs = search needs
+
 count-members-requires : tie.Need-count-members-requires
 count-members-requires c κs = search needs
 
@@ -36,10 +42,11 @@ returns c =
     let operators = rides .before .before .before .before .before in
     let first = operators .before .before .before .before .before in
     let counts = first .before .before in
-    let a = counts .before .before .before .before .args in
+    let least = counts .before .before in
+    let a = least .before .before .before .before .args in
     wrote-most 5490 (omega arith)
     (wrote-text
-    (rw (counts .before .count-members .ensures, counts .count-members2 .ensures)
+    (rw (counts .before .count-members .ensures, counts .count-members2 .ensures, least .before .least .ensures, least .least2 .ensures)
     (row-text (a .alpha) (a .beta) (a .operators) (a .rides) (a .levels .now)))
     (wrote-append (wrote-append (first .put-first .ensures) (operators .put-members .ensures)) (rides .put-members2 .ensures)))
 
@@ -47,6 +54,8 @@ pub put-cover-spec : {M : Type 1} → statement M
 put-cover-spec =
     tie.close
     (tie.spec
+    least-requires
+    least-requires-2
     count-members-requires
     count-members-requires-2
     put-first-requires

@@ -16,12 +16,12 @@ returns : tie.Need-returns
 returns c =
     let call = c .before .before in
     let a = call .before .before .before .before .before .args in
-    rw (le-leb (a .beta) (a .level) (omega arith)) (call .put-node .ensures)
+    rw (le-leb (a .least) (a .level) (omega arith)) (call .put-node .ensures)
 
 returns-2 : tie.Need-returns-2
 returns-2 c =
     let a = c .before .before .before .args in
-    rw (lt-leb (a .beta) (a .level) (omega arith)) (wrote-most 21 (omega arith) (wrote-none (a .out .now) (a .at)))
+    rw (lt-leb (a .least) (a .level) (omega arith)) (wrote-most 21 (omega arith) (wrote-none (a .out .now) (a .at)))
 
 pub put-member-spec : {M : Type 1} → statement M
 put-member-spec = tie.close (tie.spec put-node-requires same-length returns returns-2)

@@ -9,7 +9,7 @@ use native.Mathlib.Omega.{arith}
 use lib.ListN.{length}
 use Rattle.text.specs.Text.{member-line, member-lines}
 use Rattle.text.specs.Write.{Wrote}
-use Rattle.lines.specs.Members.{level-at, member-at}
+use Rattle.members.specs.Members.{level-at, member-at}
 use Rattle.text.proofs.Write.{wrote-append, wrote-most}
 use Rattle.lines.proofs.put_members.Statement.{statement}
 use Rattle.lines.proofs.put_members.Tie as tie
@@ -24,13 +24,13 @@ module _ {l m n : List ℕ} {at p end : ℕ} (name : List ℕ) (inside : ℕ →
   more v w = rw (add-one i) (wrote-most (21 * suc i) (omega arith) (wrote-append v w))
 
 abbrev Inv-loop : tie.InvT-loop
-Inv-loop out₀ at name levels first nodes beta end₀ i₀ out end i =
+Inv-loop out₀ at name levels first nodes least end₀ i₀ out end i =
     (i ≤ nodes) ×
     (length out ≡ length out₀) ×
-    Wrote out₀ at (member-lines name (member-at beta levels first) (level-at levels first) i) (21 * i) out end
+    Wrote out₀ at (member-lines name (member-at least levels first) (level-at levels first) i) (21 * i) out end
 
 abbrev μ-loop : tie.MeasureT-loop
-μ-loop out₀ at name levels first nodes beta end₀ i₀ out end i = nodes - i
+μ-loop out₀ at name levels first nodes least end₀ i₀ out end i = nodes - i
 
 loop-holds : tie.Need-loop-holds Inv-loop μ-loop
 unfolding member-lines
@@ -64,7 +64,7 @@ loop-again c =
     let a = call .before .before .before .before .before .before .before .before .args in (
       omega arith,
       call .put-member .kept .0 ∙ l .inv .1,
-      more (a .name .now) (member-at (a .beta) (a .levels .now) (a .first)) (level-at (a .levels .now) (a .first)) (l .i) (l .inv .2) (call .put-member .ensures),
+      more (a .name .now) (member-at (a .least) (a .levels .now) (a .first)) (level-at (a .levels .now) (a .first)) (l .i) (l .inv .2) (call .put-member .ensures),
     )
 
 same-length : tie.Need-same-length Inv-loop μ-loop

@@ -29,7 +29,7 @@ peel-over-requires : tie.Need-peel-over-requires
 peel-over-requires c κs = let a = c .before .before .before .before .before .before .before .before .before .before .args in
     let q = c .before .before .before .before .before .peel-number in
     let none = sym (q .ensures) ∙ (let z : q .result ≡ 0 = omega arith in z) in
-    let k = peel-accepted (a .head) (a .operators .now) (a .rides .now) (a .marks .now) (a .alpha) (a .beta) none in
+    let k = peel-accepted (a .head) (a .operators .now) (a .rides .now) (a .marks .now) none in
     ((k .0, zero-tables, omega (arith, k .0 .few-operators, k .0 .few-rides), k .1), k .2)
 
 same-length-2 : tie.Need-same-length-2
@@ -39,7 +39,7 @@ returns-2 : tie.Need-returns-2
 returns-2 c = let a = c .before .before .before .before .before .before .before .before .before .before .before .before .before .before .before .before .args in
     let q = c .before .before .before .before .before .before .before .before .before .before .before .peel-number in
     let none = sym (q .ensures) ∙ (let z : q .result ≡ 0 = omega arith in z) in
-    peel-done (a .head) (a .operators .now) (a .rides .now) (a .marks .now) (a .alpha) (a .beta) none (a .steps) _ _ (c .before .before .before .before .before .peel-over .ensures)
+    peel-done (a .head) (a .operators .now) (a .rides .now) (a .marks .now) none (a .alpha) (a .beta) (a .steps) _ _ (c .before .before .before .before .before .peel-over .ensures)
 
 pub peel-spec : {M : Type 1} → statement M
 peel-spec =

@@ -1,11 +1,8 @@
--- `queries::query` meets its contract: it refuses, or α is above rides and nobody is marked, or one row of the index is read. Assumes nothing.
+-- `queries::query` meets its contract: it refuses, or the index has no such row and the levels are 0, or one row of the index is read. Assumes nothing.
 use borrow.Author.Needs.{needs}
-use Rattle.levels.proofs.Stored.{index-small}
-use Prim.Native.Nat.{_-_}
 use mathlib.Core.Path.{_≡_, sym, _∙_}
 use native.Mathlib.Omega.{arith}
-use Rattle.model.specs.Layout.{mark-places}
-use Rattle.queries.proofs.Queries.{query-refused, query-long, query-nobody, row-end, row-long, query-row-done}
+use Rattle.queries.proofs.Queries.{query-refused, query-long, query-done, row-end, row-start, row-wide, row-levels, zeros-wide, zeros-levels}
 use Rattle.queries.proofs.query.Statement.{statement}
 use Rattle.queries.proofs.query.Tie as tie
 
@@ -27,46 +24,14 @@ cast-w c = search needs
 add-w : tie.Need-add-w
 add-w c = search needs
 
-fill-requires : tie.Need-fill-requires
-fill-requires c κs = let a = c .before .before .before .before .before .before .before .before .before .before .args in
-    let q = c .before .before .before .before .before .before .query-number in
-    let none = sym (q .ensures) ∙ (let z : q .result ≡ 0 = omega arith in z) in
-    (omega arith, query-long (a .head) (a .index .now) (a .marks .now) (a .alpha) (a .beta) none .3)
+row-requires : tie.Need-row-requires
+row-requires c κs = search needs
 
-same-length-2 : tie.Need-same-length-2
-same-length-2 c = search needs
+least-requires : tie.Need-least-requires
+least-requires c κs = search needs
 
-returns-2 : tie.Need-returns-2
-returns-2 c = let a = c .before .before .before .before .before .before .before .before .before .before .before .before .before .args in
-    let q = c .before .before .before .before .before .before .before .before .before .query-number in
-    let none = sym (q .ensures) ∙ (let z : q .result ≡ 0 = omega arith in z) in
-    query-nobody (a .head) (a .index .now) (a .marks .now) (a .alpha) (a .beta) none (omega arith) _ (c .before .before .fill .ensures)
-
-sub-at : tie.Need-sub-at
-sub-at c = let a = c .before .before .before .before .before .before .before .before .before .args in
-    let q = c .before .before .before .before .before .query-number in
-    let none = sym (q .ensures) ∙ (let z : q .result ≡ 0 = omega arith in z) in
-    query-long (a .head) (a .index .now) (a .marks .now) (a .alpha) (a .beta) none .4
-
-mul-at : tie.Need-mul-at
-mul-at c = let a = c .before .before .before .before .before .before .before .before .before .args in
-    let q = c .before .before .before .before .before .query-number in
-    let none = sym (q .ensures) ∙ (let z : q .result ≡ 0 = omega arith in z) in
-    omega (arith, row-end (a .head) (a .index .now) (a .marks .now) (a .alpha) (a .beta) none (omega arith))
-
-add-mark-row : tie.Need-add-mark-row
-add-mark-row c = let a = c .before .before .before .before .before .before .before .before .before .args in
-    let q = c .before .before .before .before .before .query-number in
-    let none = sym (q .ensures) ∙ (let z : q .result ≡ 0 = omega arith in z) in
-    omega (arith, row-end (a .head) (a .index .now) (a .marks .now) (a .alpha) (a .beta) none (omega arith))
-
-mul-mark-row : tie.Need-mul-mark-row
-mul-mark-row c = let a = c .before .before .before .before .before .before .before .before .before .args in
-    let q = c .before .before .before .before .before .query-number in
-    let none = sym (q .ensures) ∙ (let z : q .result ≡ 0 = omega arith in z) in
-    let e = row-end (a .head) (a .index .now) (a .marks .now) (a .alpha) (a .beta) none (omega arith) in
-    let k = query-long (a .head) (a .index .now) (a .marks .now) (a .alpha) (a .beta) none in
-    omega (arith, index-small (a .alpha - 1) (mark-places (a .head)) (omega (arith, k .1)) (omega (arith, k .0, k .1)))
+least-requires-2 : tie.Need-least-requires-2
+least-requires-2 c κs = search needs
 
 sub-mark-row : tie.Need-sub-mark-row
 sub-mark-row c = search needs
@@ -75,27 +40,67 @@ part-mark-row-start : tie.Need-part-mark-row-start
 part-mark-row-start c = search needs
 
 part-mark-row-end : tie.Need-part-mark-row-end
-part-mark-row-end c = let a = c .before .before .before .before .before .before .before .before .before .args in
-    let q = c .before .before .before .before .before .query-number in
-    let none = sym (q .ensures) ∙ (let z : q .result ≡ 0 = omega arith in z) in
-    row-end (a .head) (a .index .now) (a .marks .now) (a .alpha) (a .beta) none (omega arith)
+part-mark-row-end c = let a = c .before .before .before .before .before .before .before .before .before .before .before .before .before .args in
+    let none = sym (c .before .before .before .before .before .before .before .before .before .query-number .ensures) ∙ (let z : c .before .before .before .before .before .before .before .before .before .query-number .result ≡ 0 = omega arith in z) in
+    omega (arith, query-long (a .head) (a .index .now) (a .marks .now) none)
 
 mark-row-requires : tie.Need-mark-row-requires
-mark-row-requires c κs = let a = c .before .before .before .before .before .before .before .before .before .before .before .args in
-    let q = c .before .before .before .before .before .before .before .query-number in
-    let none = sym (q .ensures) ∙ (let z : q .result ≡ 0 = omega arith in z) in
-    let e = row-long (a .head) (a .index .now) (a .marks .now) (a .alpha) (a .beta) none (omega arith) in
-    let k = query-long (a .head) (a .index .now) (a .marks .now) (a .alpha) (a .beta) none in
-    (omega (arith, e), omega (arith, e, k .3), omega (arith, e, k .0, k .1), k .5)
+mark-row-requires c κs = let a = c .before .before .before .before .before .before .before .before .before .before .before .before .before .before .before .args in
+    let none = sym (c .before .before .before .before .before .before .before .before .before .before .before .query-number .ensures) ∙ (let z : c .before .before .before .before .before .before .before .before .before .before .before .query-number .result ≡ 0 = omega arith in z) in
+    omega (arith, zeros-wide (a .head) (a .index .now) (a .marks .now) (a .alpha) none, query-long (a .head) (a .index .now) (a .marks .now) none)
+
+same-length-2 : tie.Need-same-length-2
+same-length-2 c = search needs
+
+returns-2 : tie.Need-returns-2
+returns-2 c = let a = c .before .before .before .before .before .before .before .before .before .before .before .before .before .before .before .before .before .before .args in
+    let none = sym (c .before .before .before .before .before .before .before .before .before .before .before .before .before .before .query-number .ensures) ∙ (let z : c .before .before .before .before .before .before .before .before .before .before .before .before .before .before .query-number .result ≡ 0 = omega arith in z) in
+    query-done (a .head) (a .index .now) (a .marks .now) (a .alpha) (a .beta) none _ (zeros-wide (a .head) (a .index .now) (a .marks .now) (a .alpha) none) (zeros-levels (a .head) (a .index .now) (a .marks .now) (a .alpha) none (omega (arith, c .before .before .before .before .before .before .before .before .before .before .row .ensures))) _ _ (c .before .before .before .before .before .before .before .before .before .least .ensures) (c .before .before .before .before .before .before .before .before .least2 .ensures) _ _ (c .before .before .mark-row .ensures) (omega arith)
+
+cast-at : tie.Need-cast-at
+cast-at c = search needs
+
+sub-at : tie.Need-sub-at
+sub-at c = search needs
+
+mul-at : tie.Need-mul-at
+mul-at c = let a = c .before .before .before .before .before .before .before .before .before .before .before .before .args in
+    let none = sym (c .before .before .before .before .before .before .before .before .query-number .ensures) ∙ (let z : c .before .before .before .before .before .before .before .before .query-number .result ≡ 0 = omega arith in z) in
+    omega (arith, row-start (a .head) (a .index .now) (a .marks .now) (a .alpha) none _ (c .before .before .before .before .row .ensures) (omega arith))
+
+add-mark-row : tie.Need-add-mark-row
+add-mark-row c = let a = c .before .before .before .before .before .before .before .before .before .before .before .before .args in
+    let none = sym (c .before .before .before .before .before .before .before .before .query-number .ensures) ∙ (let z : c .before .before .before .before .before .before .before .before .query-number .result ≡ 0 = omega arith in z) in
+    omega (arith, row-start (a .head) (a .index .now) (a .marks .now) (a .alpha) none _ (c .before .before .before .before .row .ensures) (omega arith))
+
+mul-mark-row : tie.Need-mul-mark-row
+mul-mark-row c = let a = c .before .before .before .before .before .before .before .before .before .before .before .before .args in
+    let none = sym (c .before .before .before .before .before .before .before .before .query-number .ensures) ∙ (let z : c .before .before .before .before .before .before .before .before .query-number .result ≡ 0 = omega arith in z) in
+    omega (arith, row-start (a .head) (a .index .now) (a .marks .now) (a .alpha) none _ (c .before .before .before .before .row .ensures) (omega arith))
+
+sub-mark-row-2 : tie.Need-sub-mark-row-2
+sub-mark-row-2 c = search needs
+
+part-mark-row-start-2 : tie.Need-part-mark-row-start-2
+part-mark-row-start-2 c = search needs
+
+part-mark-row-end-2 : tie.Need-part-mark-row-end-2
+part-mark-row-end-2 c = let a = c .before .before .before .before .before .before .before .before .before .before .before .before .args in
+    let none = sym (c .before .before .before .before .before .before .before .before .query-number .ensures) ∙ (let z : c .before .before .before .before .before .before .before .before .query-number .result ≡ 0 = omega arith in z) in
+    row-end (a .head) (a .index .now) (a .marks .now) (a .alpha) none _ (c .before .before .before .before .row .ensures) (omega arith)
+
+mark-row-requires-2 : tie.Need-mark-row-requires-2
+mark-row-requires-2 c κs = let a = c .before .before .before .before .before .before .before .before .before .before .before .before .before .before .args in
+    let none = sym (c .before .before .before .before .before .before .before .before .before .before .query-number .ensures) ∙ (let z : c .before .before .before .before .before .before .before .before .before .before .query-number .result ≡ 0 = omega arith in z) in
+    omega (arith, row-wide (a .head) (a .index .now) (a .marks .now) (a .alpha) none _ (c .before .before .before .before .before .before .row .ensures) (omega arith), query-long (a .head) (a .index .now) (a .marks .now) none)
 
 same-length-3 : tie.Need-same-length-3
 same-length-3 c = search needs
 
 returns-3 : tie.Need-returns-3
-returns-3 c = let a = c .before .before .before .before .before .before .before .before .before .before .before .before .before .before .args in
-    let q = c .before .before .before .before .before .before .before .before .before .before .query-number in
-    let none = sym (q .ensures) ∙ (let z : q .result ≡ 0 = omega arith in z) in
-    query-row-done (a .head) (a .index .now) (a .marks .now) (a .alpha) (a .beta) none (omega arith) _ _ (omega arith) (c .before .before .mark-row .ensures)
+returns-3 c = let a = c .before .before .before .before .before .before .before .before .before .before .before .before .before .before .before .before .before .args in
+    let none = sym (c .before .before .before .before .before .before .before .before .before .before .before .before .before .query-number .ensures) ∙ (let z : c .before .before .before .before .before .before .before .before .before .before .before .before .before .query-number .result ≡ 0 = omega arith in z) in
+    query-done (a .head) (a .index .now) (a .marks .now) (a .alpha) (a .beta) none _ (row-wide (a .head) (a .index .now) (a .marks .now) (a .alpha) none _ (c .before .before .before .before .before .before .before .before .before .row .ensures) (omega arith)) (row-levels (a .head) (a .index .now) (a .marks .now) (a .alpha) none _ (c .before .before .before .before .before .before .before .before .before .row .ensures) (omega arith)) _ _ (c .before .before .before .before .before .before .before .before .least .ensures) (c .before .before .before .before .before .before .before .least2 .ensures) _ _ (c .before .before .mark-row2 .ensures) (omega arith)
 
 pub query-spec : {M : Type 1} → statement M
 query-spec =
@@ -107,16 +112,23 @@ query-spec =
     cast-n
     cast-w
     add-w
-    fill-requires
-    same-length-2
-    returns-2
-    sub-at
-    mul-at
-    add-mark-row
-    mul-mark-row
+    row-requires
+    least-requires
+    least-requires-2
     sub-mark-row
     part-mark-row-start
     part-mark-row-end
     mark-row-requires
+    same-length-2
+    returns-2
+    cast-at
+    sub-at
+    mul-at
+    add-mark-row
+    mul-mark-row
+    sub-mark-row-2
+    part-mark-row-start-2
+    part-mark-row-end-2
+    mark-row-requires-2
     same-length-3
     returns-3)

@@ -12,20 +12,20 @@ cast-n c = search needs
 cast-m : tie.Need-cast-m
 cast-m c = search needs
 
+add-first : tie.Need-add-first
+add-first c = search needs
+
+mul-first : tie.Need-mul-first
+mul-first c = let h = c .before .before .before .before .args .head in omega (arith, product-fits (h .operators) (h .rides) (omega arith) (omega arith), product-fits (h .rides) (h .rides) (omega arith) (omega arith))
+
+add-first-2 : tie.Need-add-first-2
+add-first-2 c = search needs
+
 first-requires : tie.Need-first-requires
 first-requires c κs = search needs
 
 first-requires-2 : tie.Need-first-requires-2
 first-requires-2 c κs = search needs
-
-add-first : tie.Need-add-first
-add-first c = search needs
-
-mul-first : tie.Need-mul-first
-mul-first c = let h = c .before .before .before .before .before .before .args .head in omega (arith, product-fits (h .operators) (h .rides) (omega arith) (omega arith), product-fits (h .rides) (h .rides) (omega arith) (omega arith))
-
-add-first-2 : tie.Need-add-first-2
-add-first-2 c = search needs
 
 first-requires-3 : tie.Need-first-requires-3
 first-requires-3 c κs = search needs
@@ -33,15 +33,9 @@ first-requires-3 c κs = search needs
 first-requires-4 : tie.Need-first-requires-4
 first-requires-4 c κs = search needs
 
-first-requires-5 : tie.Need-first-requires-5
-first-requires-5 c κs = search needs
-
-first-requires-6 : tie.Need-first-requires-6
-first-requires-6 c κs = search needs
-
 returns : tie.Need-returns
-returns c = let a = c .before .before .before .before .before .before .before .before .before .before .before .before .args in
-    query-first (a .head) (a .index .now) (a .alpha) (a .beta) (a .marks .now) _ _ _ _ _ _ (c .before .before .before .before .before .before .before .first .ensures) (c .before .before .before .before .before .before .first2 .ensures) (c .before .before .before .before .before .first3 .ensures) (c .before .before .before .before .first4 .ensures) (c .before .first5 .ensures) (c .first6 .ensures)
+returns c = let a = c .before .before .before .before .before .before .before .before .before .before .args in
+    query-first (a .head) (a .index .now) (a .marks .now) _ _ _ _ (c .before .before .before .before .before .first .ensures) (c .before .before .before .before .first2 .ensures) (c .before .first3 .ensures) (c .first4 .ensures)
 
 pub query-number-spec : {M : Type 1} → statement M
 query-number-spec =
@@ -49,13 +43,11 @@ query-number-spec =
     (tie.spec
     cast-n
     cast-m
-    first-requires
-    first-requires-2
     add-first
     mul-first
     add-first-2
+    first-requires
+    first-requires-2
     first-requires-3
     first-requires-4
-    first-requires-5
-    first-requires-6
     returns)

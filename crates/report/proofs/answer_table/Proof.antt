@@ -9,10 +9,10 @@ use native.Mathlib.Decide.{decLt}
 use lib.Dec.{T}
 use lib.ListN.{getD, take, replicate, length-take, List·getD-eq-default}
 use lib.Seq.{getD-take}
-use borrow.Author.Tests.{not-true, not-false, eq-eqb, ne-eqb}
+use borrow.Author.Tests.{not-true, not-false}
 use Rattle.model.specs.Refusal.{refused-5}
 use Rattle.model.proofs.Store.{getD-zeros}
-use Rattle.report.proofs.Report.{table-5, table-11, table-cover}
+use Rattle.report.proofs.Report.{table-5, table-cover}
 use Rattle.text.proofs.Write.{wrote-text, wrote-most}
 use Rattle.report.proofs.answer_table.Statement.{statement}
 use Rattle.report.proofs.answer_table.Tie as tie
@@ -52,38 +52,6 @@ returns c =
     (table-5 (a .h) (a .operators .now) (a .rides .now) (a .alpha) (a .beta) (refuses _ _ (test .before .ascending .ensures) (test .if1 .taken)))
     (call .put-refusal .ensures))
 
-put-refusal-requires-2 : tie.Need-put-refusal-requires-2
-put-refusal-requires-2 c κs = search needs
-
-same-length-2 : tie.Need-same-length-2
-same-length-2 c = search needs
-
-returns-2 : tie.Need-returns-2
-returns-2 c =
-    let call = c .before .before in
-    let test = call .before .before in
-    let a = test .before .before .before .before .before .before .args in
-    wrote-most 5490 (omega arith)
-    (wrote-text
-    (table-11 (a .h) (a .operators .now) (a .rides .now) (a .alpha) (a .beta) (accepts _ _ (test .before .before .ascending .ensures) (test .before .if1 .left)) (rw (eq-eqb _ _ (test .if2 .taken))))
-    (call .put-refusal2 .ensures))
-
-put-refusal-requires-3 : tie.Need-put-refusal-requires-3
-put-refusal-requires-3 c κs = search needs
-
-same-length-3 : tie.Need-same-length-3
-same-length-3 c = search needs
-
-returns-3 : tie.Need-returns-3
-returns-3 c =
-    let call = c .before .before in
-    let test = call .before .before in
-    let a = test .before .before .before .before .before .before .before .args in
-    wrote-most 5490 (omega arith)
-    (wrote-text
-    (table-11 (a .h) (a .operators .now) (a .rides .now) (a .alpha) (a .beta) (accepts _ _ (test .before .before .before .ascending .ensures) (test .before .before .if1 .left)) (rw (ne-eqb _ _ (test .before .if2 .left), eq-eqb _ _ (test .if3 .taken))))
-    (call .put-refusal3 .ensures))
-
 add-nodes : tie.Need-add-nodes
 add-nodes c = search needs
 
@@ -102,7 +70,7 @@ part-row-end c = search needs
 put-lines-requires : tie.Need-put-lines-requires
 put-lines-requires c κs =
     let test = c .before .before .before in
-    let start = test .before .before .before .before .before .before .before in
+    let start = test .before .before .before .before .before in
     let a = start .args in
     let nodes = a .h .operators + a .h .rides - 0 in (
       (
@@ -111,26 +79,24 @@ put-lines-requires c κs =
           few-rides = start .pre .0 .few-rides;
           operators-long = omega arith;
           rides-long = omega arith;
-          ordered = subst T (accepts (refused-5 (a .h) (a .operators .now) (a .rides .now)) _ (test .before .before .before .ascending .ensures) (test .before .before .if1 .left));
+          ordered = subst T (accepts (refused-5 (a .h) (a .operators .now) (a .rides .now)) _ (test .before .ascending .ensures) (test .if1 .left));
         },
-        omega arith,
-        omega arith,
         length-take nodes (replicate 260 0) ∙ (let e : min nodes 260 ≡ a .h .operators + a .h .rides = omega arith in e),
         omega arith,
       ),
       take-zeros nodes (replicate 260 0) (getD-zeros 260),
     )
 
-same-length-4 : tie.Need-same-length-4
-same-length-4 c = search needs
+same-length-2 : tie.Need-same-length-2
+same-length-2 c = search needs
 
-returns-4 : tie.Need-returns-4
-returns-4 c =
+returns-2 : tie.Need-returns-2
+returns-2 c =
     let call = c .before .before .before in
     let test = call .before .before .before .before in
-    let a = test .before .before .before .before .before .before .before .args in
+    let a = test .before .before .before .before .before .args in
     wrote-text
-    (table-cover (a .h) (a .operators .now) (a .rides .now) (a .alpha) (a .beta) (accepts _ _ (test .before .before .before .ascending .ensures) (test .before .before .if1 .left)) (rw (ne-eqb _ _ (test .before .if2 .left), ne-eqb _ _ (test .if3 .left))))
+    (table-cover (a .h) (a .operators .now) (a .rides .now) (a .alpha) (a .beta) (accepts _ _ (test .before .ascending .ensures) (test .if1 .left)))
     (call .put-lines .ensures)
 
 pub answer-table-spec : {M : Type 1} → statement M
@@ -141,17 +107,11 @@ answer-table-spec =
     put-refusal-requires
     same-length
     returns
-    put-refusal-requires-2
-    same-length-2
-    returns-2
-    put-refusal-requires-3
-    same-length-3
-    returns-3
     add-nodes
     cast-nodes
     sub-put-lines
     part-row-start
     part-row-end
     put-lines-requires
-    same-length-4
-    returns-4)
+    same-length-2
+    returns-2)

@@ -1,14 +1,19 @@
 -- Inner contracts: who is in a cover, from a row of levels.
 use mathlib.Core.Bool.{Bool}
 use mathlib.Core.List.{List}
-use Prim.Native.Nat.{ℕ, _+_}
+use Prim.Native.Nat.{ℕ, zero, suc, _+_, max}
 use lib.Dec.{leb}
 use lib.ListN.{getD}
+
+-- the least level with which a node of this limit is in cover (α, β)
+abbrev pub least-level : ℕ → ℕ → ℕ
+least-level zero β = 0
+least-level (suc limit) β = max β 1
 
 -- the level of the node first + i in a row
 abbrev pub level-at : List ℕ → ℕ → ℕ → ℕ
 level-at levels first i = getD levels (first + i) 0
 
--- whether that node is in the cover: its level is at least β
+-- whether that node has at least a level
 abbrev pub member-at : ℕ → List ℕ → ℕ → ℕ → Bool
-member-at β levels first i = leb β (level-at levels first i)
+member-at least levels first i = leb least (level-at levels first i)
