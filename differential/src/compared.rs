@@ -19,6 +19,9 @@ pub const INDEX_MOST: usize = 15_700;
 pub const MARKS_MOST: usize = 400;
 pub const LIST_MOST: usize = 400;
 
+/// Document 02: this number is never given.
+pub const NEVER_GIVEN: u16 = 11;
+
 /// Guarded memory for everything that a call is lent.
 struct Regions {
     head: Region<Head>,
@@ -79,6 +82,9 @@ pub struct Totals {
     pub numbers: [u64; 13],
     pub settled: u64,
     pub unsettled: u64,
+    pub alpha_zero: u64,
+    pub beta_zero: u64,
+    pub both_zero: u64,
     pub words: u64,
     pub largest: u64,
     pub deliveries: u64,
@@ -90,11 +96,22 @@ impl Totals {
         self.builds + self.queries + self.peels + self.messages + self.lists
     }
 
+    /// Counts a number that a call gave. One that no call gives is a difference, also where both sides give it.
     fn number(&mut self, head: Head, code: u16) {
         self.largest += (code == 0 && (head.operators, head.rides) == (200, 60)) as u64;
         match self.numbers.get_mut(code as usize) {
-            Some(count) => *count += 1,
-            None => self.differ(&format!("number {code} is given")),
+            Some(count) if code != NEVER_GIVEN => *count += 1,
+            _ => self.differ(&format!("number {code} is given")),
+        }
+    }
+
+    /// Counts the limits of an accepted query or peel that have a 0 among them.
+    fn limits(&mut self, code: u16, alpha: u16, beta: u16) {
+        match (code, alpha, beta) {
+            (0, 0, 0) => self.both_zero += 1,
+            (0, 0, _) => self.alpha_zero += 1,
+            (0, _, 0) => self.beta_zero += 1,
+            _ => {}
         }
     }
 
@@ -166,6 +183,7 @@ impl<B: Board> Compared<B> {
         let found = library.query(lent.head, index, alpha, beta, left);
         totals.queries += 1;
         totals.number(lent.head, found.code);
+        totals.limits(found.code, alpha, beta);
         totals.same("query", found, expected);
         totals.same_words("query", "index", index, &lent.parts.index);
         totals.same_words("query", "marks", left, marks);
@@ -183,6 +201,7 @@ impl<B: Board> Compared<B> {
         let found = library.peel(lent.head, operators, rides, left, alpha, beta, steps);
         totals.peels += 1;
         totals.number(lent.head, found.code);
+        totals.limits(found.code, alpha, beta);
         totals.settled += (found.code == 0 && found.settled == 1) as u64;
         totals.unsettled += (found.code == 0 && found.settled == 0) as u64;
         totals.same("peel", found, expected);
@@ -228,5 +247,20 @@ impl<B: Board> Compared<B> {
         totals.same_words("message list", "answers", left, answers);
         self.check_filled();
         expected
+    }
+}
+
+#[cfg(test)]
+mod tests {
+    use super::*;
+
+    #[test]
+    fn a_number_that_no_call_gives_is_a_difference() {
+        for code in 0..=14 {
+            let mut totals = Totals::default();
+            totals.number(Head { operators: 4, rides: 3, pairs: 7 }, code);
+            let is_given = code <= 12 && code != 11;
+            assert_eq!((totals.numbers.iter().sum::<u64>(), totals.differences), (is_given as u64, !is_given as u64));
+        }
     }
 }

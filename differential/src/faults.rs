@@ -14,8 +14,22 @@ enum Fault {
     BuildWritesThoughRefused,
     QueryMark,
     QueryCount,
+    /// Operators are asked for a level of row 1 where alpha is 0.
+    QueryAlphaZeroIsOne,
+    /// Rides are asked for level 1 where beta is 0.
+    QueryBetaZeroIsOne,
+    /// Where there is no row alpha, row 1 is read.
+    QueryMissingRowIsOne,
+    /// 11 is given where a limit is 0.
+    QueryZeroRefused,
     PeelStep,
     PeelMark,
+    /// Operators fall short of 1 where alpha is 0.
+    PeelAlphaZeroIsOne,
+    /// Rides fall short of 1 where beta is 0.
+    PeelBetaZeroIsOne,
+    /// 11 is given where a limit is 0.
+    PeelZeroRefused,
     MessageStamp,
     MessageDiffer,
     MessagePairs,
@@ -23,14 +37,21 @@ enum Fault {
     ListNumber,
 }
 
-const FAULTS: [Fault; 12] = [
+const FAULTS: [Fault; 19] = [
     Fault::BuildRefuses,
     Fault::BuildIndex,
     Fault::BuildWritesThoughRefused,
     Fault::QueryMark,
     Fault::QueryCount,
+    Fault::QueryAlphaZeroIsOne,
+    Fault::QueryBetaZeroIsOne,
+    Fault::QueryMissingRowIsOne,
+    Fault::QueryZeroRefused,
     Fault::PeelStep,
     Fault::PeelMark,
+    Fault::PeelAlphaZeroIsOne,
+    Fault::PeelBetaZeroIsOne,
+    Fault::PeelZeroRefused,
     Fault::MessageStamp,
     Fault::MessageDiffer,
     Fault::MessagePairs,
@@ -61,10 +82,21 @@ impl Board for Faulty {
     }
 
     fn query(&mut self, head: Head, index: &[u16], alpha: u16, beta: u16, marks: &mut [u16]) -> Counts {
-        let mut counts = Reference.query(head, index, alpha, beta, marks);
+        let (read_alpha, read_beta) = match self.0 {
+            Fault::QueryAlphaZeroIsOne => (alpha.max(1), beta),
+            Fault::QueryBetaZeroIsOne => (alpha, beta.max(1)),
+            Fault::QueryMissingRowIsOne if alpha > head.rides => (1, beta),
+            _ => (alpha, beta),
+        };
+        let before = marks.to_vec();
+        let mut counts = Reference.query(head, index, read_alpha, read_beta, marks);
         match (self.0, counts.code) {
             (Fault::QueryMark, 0) => spoil(marks),
             (Fault::QueryCount, 0) => counts.rides += 1,
+            (Fault::QueryZeroRefused, 0) if alpha == 0 || beta == 0 => {
+                marks.copy_from_slice(&before);
+                return Counts { code: 11, operators: 0, rides: 0 };
+            }
             _ => {}
         }
         counts
@@ -80,10 +112,20 @@ impl Board for Faulty {
         beta: u16,
         steps: u16,
     ) -> Peeled {
-        let mut peeled = Reference.peel(head, operators, rides, marks, alpha, beta, steps);
+        let (read_alpha, read_beta) = match self.0 {
+            Fault::PeelAlphaZeroIsOne => (alpha.max(1), beta),
+            Fault::PeelBetaZeroIsOne => (alpha, beta.max(1)),
+            _ => (alpha, beta),
+        };
+        let before = marks.to_vec();
+        let mut peeled = Reference.peel(head, operators, rides, marks, read_alpha, read_beta, steps);
         match (self.0, peeled.code) {
             (Fault::PeelStep, 0) => peeled.steps += 1,
             (Fault::PeelMark, 0) => spoil(marks),
+            (Fault::PeelZeroRefused, 0) if alpha == 0 || beta == 0 => {
+                marks.copy_from_slice(&before);
+                return Peeled { code: 11, settled: 0, steps: 0 };
+            }
             _ => {}
         }
         peeled

@@ -6,7 +6,7 @@ mod faults;
 mod numbers;
 mod sequences;
 
-use compared::{Compared, Totals};
+use compared::{Compared, Totals, NEVER_GIVEN};
 use differential::Proved;
 use numbers::Numbers;
 use sequences::{delivery, sequence, Size};
@@ -18,7 +18,11 @@ fn print_totals(totals: &Totals) {
     println!("  message {}, message list {} with {} messages", totals.messages, totals.lists, totals.listed_messages);
     println!("  accepted on boards of 200 × 60: {}", totals.largest);
     println!("  peels settled {}, unsettled {}", totals.settled, totals.unsettled);
-    for (number, count) in totals.numbers.iter().enumerate() {
+    println!(
+        "  accepted with α = 0 alone {}, with β = 0 alone {}, with both 0 {}",
+        totals.alpha_zero, totals.beta_zero, totals.both_zero
+    );
+    for (number, count) in totals.numbers.iter().enumerate().filter(|(number, _)| *number != NEVER_GIVEN as usize) {
         println!("  answered {number}: {count}");
     }
     println!("message sets delivered in several orders: {}", totals.deliveries);

@@ -153,12 +153,12 @@ fn damage(numbers: &mut Numbers, lent: &mut Lent) {
     }
 }
 
-/// A limit: 0, around a size, or any.
+/// A limit: one in four is 0; around a size, or any.
 fn limit(numbers: &mut Numbers, size: u16) -> u16 {
     match numbers.below(12) {
-        0 => 0,
-        1 => numbers.word(),
-        2 => size.saturating_add(1),
+        0..=2 => 0,
+        3 => numbers.word(),
+        4 => size.saturating_add(1),
         _ => 1 + numbers.below((size as usize + 1).min(65535)) as u16,
     }
 }

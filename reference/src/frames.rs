@@ -462,7 +462,7 @@ pub fn replay(stream: &[u8], board: &mut impl Board) -> String {
 }
 
 /// Replays a stream of inputs of the program `cover`: the outputs, one after another.
-pub fn replay_cover(stream: &[u8], cover: impl Fn(&[u8]) -> Vec<u8>) -> Vec<u8> {
+pub fn replay_cover(stream: &[u8], mut cover: impl FnMut(&[u8]) -> Vec<u8>) -> Vec<u8> {
     let mut rest = stream;
     let mut output = Vec::new();
     while let [low, high, after @ ..] = rest {

@@ -1,8 +1,9 @@
-//! The board of document 01, written again from that document and Definition 2.1 of document 000 alone, to compare
-//! the proved library with. Where a slow way is the clearer one it is taken: a cover is found by repeated removal, and
-//! levels by one cover after another.
+//! The board of documents 01 and 02, written again from these documents and Definition 2.1 of document 000 alone, to
+//! compare the proved library with. Where a slow way is the clearer one it is taken: a cover is found by repeated
+//! removal, and levels by one cover after another.
 
 pub mod frames;
+pub mod samples;
 
 use std::collections::BTreeSet;
 use std::io::Write;
@@ -195,8 +196,8 @@ impl Clearances {
     }
 }
 
-/// Definition 2.1: the largest set where each operator has at least alpha rides of the set, and each ride at least
-/// beta operators of it. Whoever falls short goes, again and again, until nobody does.
+/// Definition 2.1, for limits from 0: the largest set where each operator has at least alpha rides of the set, and each
+/// ride at least beta operators of it. Whoever falls short goes, again and again, until nobody does.
 fn core(clearances: &Clearances, alpha: usize, beta: usize) -> (Set, Set) {
     let mut operators = Set::of(0..clearances.rides_of.len());
     let mut rides = Set::of(0..clearances.operators_of.len());
@@ -212,9 +213,10 @@ fn core(clearances: &Clearances, alpha: usize, beta: usize) -> (Set, Set) {
     }
 }
 
-/// Row alpha: the level of each operator, then of each ride, the largest beta whose cover (alpha, beta) holds it. Where
-/// a cover is empty, so is that of each larger beta.
+/// Row alpha, for an alpha from 1: the level of each operator, then of each ride, the largest beta from 1 whose cover
+/// (alpha, beta) holds it, or 0 if none does. Where a cover is empty, so is that of each larger beta.
 fn row(clearances: &Clearances, alpha: usize) -> Vec<u16> {
+    assert!(alpha >= 1, "cover (0, beta) holds every operator, whatever beta is");
     let mut operators = vec![0; clearances.rides_of.len()];
     let mut rides = vec![0; clearances.operators_of.len()];
     for beta in 1.. {
@@ -273,22 +275,45 @@ fn stamp_place(head: Head, operator: u16, ride: u16) -> usize {
     operator as usize * head.rides as usize + ride as usize
 }
 
+/// Marks by the words of the index, whatever they are. Documents 01 and 02: with alpha 0 all operators are in, and a
+/// ride by its row 1 level; with beta 0 all rides are in, and an operator if its row alpha level is at least 1.
 pub fn query(head: Head, index: &[u16], alpha: u16, beta: u16, marks: &mut [u16]) -> Counts {
     let code = lowest(&[
         (1, &|| head.operators > 200),
         (2, &|| head.rides > 60),
         (3, &|| index.len() < head.words() || marks.len() < head.nodes()),
-        (11, &|| alpha == 0 || beta == 0),
     ]);
     if code != 0 {
         return Counts { code, operators: 0, rides: 0 };
     }
-    for node in 0..head.nodes() {
-        let is_in = alpha <= head.rides && index[(alpha as usize - 1) * head.nodes() + node] >= beta;
-        marks[node] = is_in as u16;
+    let (operators, rides) = marks[..head.nodes()].split_at_mut(head.operators as usize);
+    for (o, mark) in operators.iter_mut().enumerate() {
+        let is_in = match (alpha, beta) {
+            (0, _) => true,
+            (_, 0) => indexed(head, index, alpha, o) >= 1,
+            _ => indexed(head, index, alpha, o) >= beta,
+        };
+        *mark = is_in as u16;
     }
-    let (operators, rides) = marks[..head.nodes()].split_at(head.operators as usize);
+    for (r, mark) in rides.iter_mut().enumerate() {
+        let node = head.operators as usize + r;
+        let is_in = match (alpha, beta) {
+            (_, 0) => true,
+            (0, _) => indexed(head, index, 1, node) >= beta,
+            _ => indexed(head, index, alpha, node) >= beta,
+        };
+        *mark = is_in as u16;
+    }
     Counts { code: 0, operators: operators.iter().sum(), rides: rides.iter().sum() }
+}
+
+/// The word of an operator or ride in row alpha of the index, for an alpha from 1; 0 where there is no such row.
+fn indexed(head: Head, index: &[u16], alpha: u16, node: usize) -> u16 {
+    if alpha <= head.rides {
+        index[(alpha as usize - 1) * head.nodes() + node]
+    } else {
+        0
+    }
 }
 
 pub fn peel(
@@ -306,7 +331,6 @@ pub fn peel(
         (3, &|| operators.len() < head.places() || rides.len() < head.places() || marks.len() < head.nodes()),
         (4, &|| head.pairs as usize > head.places()),
         (5, &|| disordered(head, operators, rides)),
-        (11, &|| alpha == 0 || beta == 0),
         (12, &|| marks[..head.nodes()].iter().any(|mark| *mark > 1)),
     ]);
     if code != 0 {
@@ -417,22 +441,21 @@ fn cover_checked(input: &[u8], output: &mut Vec<u8>) -> u16 {
     let pairs = head.pairs as usize;
     let operators = || (3..3 + pairs).map(word).collect::<Vec<u16>>();
     let rides = || (3 + pairs..3 + 2 * pairs).map(word).collect::<Vec<u16>>();
-    let (alpha, beta) = (|| word(3 + 2 * pairs), || word(4 + 2 * pairs));
     let code = lowest(&[
         (1, &|| head.operators > 200),
         (2, &|| head.rides > 60),
         (4, &|| pairs > head.places()),
         (13, &|| input.len() != 10 + 4 * pairs),
         (5, &|| disordered(head, &operators(), &rides())),
-        (11, &|| alpha() == 0 || beta() == 0),
     ]);
     if code != 0 {
         return code;
     }
-    let (alpha, beta) = (alpha(), beta());
+    let (alpha, beta) = (word(3 + 2 * pairs), word(4 + 2 * pairs));
     let clearances = Clearances::new(head, &listed(head, &operators(), &rides()));
     let (operators, rides) = core(&clearances, alpha as usize, beta as usize);
-    let levels = row(&clearances, alpha as usize);
+    // For alpha 0 those of row 1. Past the last row of the index they are all 0.
+    let levels = row(&clearances, alpha.max(1) as usize);
     writeln!(output, "cover {alpha} {beta} {} {}", operators.numbers().count(), rides.numbers().count()).unwrap();
     for number in operators.numbers() {
         writeln!(output, "operator {number} {}", levels[number]).unwrap();

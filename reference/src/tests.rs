@@ -1,5 +1,6 @@
-//! The samples of document 01, and the definitions against what they say of every set.
+//! The samples of documents 01 and 02, and the definitions against what they say of every set.
 
+use super::samples::{BY_NO_INDEX, LIMITS_FROM_0, NO_INDEX, PAIRS, PEELS_FROM_0, SHORT_FROM_0};
 use super::*;
 
 /// Memory for a board, longer by two places in each part than it needs.
@@ -47,11 +48,9 @@ impl Store {
     }
 }
 
-const SAMPLE: [(u16, u16); 7] = [(0, 0), (0, 1), (1, 0), (1, 1), (2, 1), (2, 2), (3, 2)];
-
 /// The board of document 01's samples.
 fn sample(start: u32) -> Store {
-    let mut store = Store::new(4, 3, &SAMPLE);
+    let mut store = Store::new(4, 3, &PAIRS);
     assert_eq!(store.build(start), 0);
     store
 }
@@ -74,7 +73,55 @@ fn covers() {
     assert_eq!(board.query(1, 3), (Counts { code: 0, operators: 3, rides: 1 }, vec![1, 1, 1, 0, 0, 1, 0]));
     assert_eq!(board.query(1, 4), (Counts { code: 0, operators: 0, rides: 0 }, vec![0; 7]));
     assert_eq!(board.query(4, 1), (Counts { code: 0, operators: 0, rides: 0 }, vec![0; 7]));
-    assert_eq!(board.query(0, 1), (Counts { code: 11, operators: 0, rides: 0 }, vec![9; 7]));
+}
+
+/// Document 02: by a query after a build, by a peel from all ones, and by the program.
+#[test]
+fn limits_from_0() {
+    for sample in LIMITS_FROM_0 {
+        let (alpha, beta) = (sample.alpha, sample.beta);
+        let mut board = Store::new(sample.operators, sample.rides, sample.pairs);
+        assert_eq!(board.build(1), 0);
+        let [operators, rides] = sample.counts();
+        assert_eq!(board.query(alpha, beta), (Counts { code: 0, operators, rides }, sample.marks.to_vec()));
+        let mut marks = vec![1; sample.marks.len()];
+        let peeled = board.peel(&mut marks, alpha, beta, 65535);
+        assert_eq!((peeled, &marks[..]), (Peeled { code: 0, settled: 1, steps: sample.steps() }, sample.marks));
+        let listed = sample.pairs.iter().map(|pair| pair.0).chain(sample.pairs.iter().map(|pair| pair.1));
+        let words: Vec<u16> =
+            [sample.operators, sample.rides, board.head.pairs].into_iter().chain(listed).chain([alpha, beta]).collect();
+        assert_eq!(String::from_utf8(cover(&input(&words))).unwrap(), sample.text);
+    }
+}
+
+#[test]
+fn queries_go_by_the_index() {
+    let head = Head { operators: 2, rides: 2, pairs: 0 };
+    for &(alpha, beta, expected) in BY_NO_INDEX {
+        let mut marks = [9; 4];
+        let counts = query(head, &NO_INDEX, alpha, beta, &mut marks);
+        let (operators, rides) = (expected[0] + expected[1], expected[2] + expected[3]);
+        assert_eq!((counts, marks), (Counts { code: 0, operators, rides }, expected));
+    }
+}
+
+/// Short parts get 3, also where no row is read; with the lengths that are needed the same limits are accepted. Sizes get
+/// 1 and 2 before that.
+#[test]
+fn refused_queries() {
+    for &(operators, rides, index, marks, (alpha, beta)) in SHORT_FROM_0 {
+        let head = Head { operators, rides, pairs: 0 };
+        let mut left = vec![9; marks];
+        let counts = query(head, &vec![1; index], alpha, beta, &mut left);
+        assert_eq!((counts, left), (Counts { code: 3, operators: 0, rides: 0 }, vec![9; marks]));
+        assert_eq!(query(head, &vec![1; head.words()], alpha, beta, &mut vec![9; head.nodes()]).code, 0);
+    }
+    for (alpha, beta) in [(0, 0), (0, 1), (1, 0)] {
+        for (operators, rides, code) in [(201, 61, 1), (200, 61, 2)] {
+            let counts = query(Head { operators, rides, pairs: 0 }, &[], alpha, beta, &mut []);
+            assert_eq!(counts, Counts { code, operators: 0, rides: 0 });
+        }
+    }
 }
 
 #[test]
@@ -91,6 +138,16 @@ fn peels() {
     assert_eq!(board.peel(&mut marks, 2, 2, 65535), Peeled { code: 0, settled: 1, steps: 3 });
     assert_eq!(board.peel(&mut marks, 2, 2, 0), Peeled { code: 0, settled: 1, steps: 0 });
     assert_eq!(marks, [1, 1, 0, 0, 1, 1, 0]);
+}
+
+#[test]
+fn peels_with_limits_from_0() {
+    let board = sample(1);
+    for &(marks, (alpha, beta), steps, numbers, expected) in PEELS_FROM_0 {
+        let mut left = marks;
+        let Peeled { code, settled, steps } = board.peel(&mut left, alpha, beta, steps);
+        assert_eq!(([code, settled, steps], left), (numbers, expected));
+    }
 }
 
 #[test]
@@ -144,31 +201,47 @@ fn cover_sample() {
     assert_eq!(cover(&input(&[4, 61, 65535])), b"refused 2\n");
     assert_eq!(cover(&input(&[4, 3, 13])), b"refused 4\n");
     assert_eq!(cover(&input(&[4, 3, 1, 0, 3, 0, 2])), b"refused 5\n");
-    assert_eq!(cover(&input(&[4, 3, 1, 0, 2, 0, 2])), b"refused 11\n");
+    assert_eq!(cover(&input(&[4, 3, 1, 0, 3, 0, 0])), b"refused 5\n");
+    assert_eq!(cover(&input(&[4, 3, 1, 0, 2, 0])), b"refused 13\n");
 }
 
-/// Definition 2.1 over every set of every table of up to 3 by 3: the cover meets the limits, and each set that meets
-/// them lies inside it.
+/// Definition 2.1 over every set of every table of up to 3 by 3, for limits from 0: inside any marks there is a largest
+/// set that meets the limits, and a peel settles on it. From all ones it is the cover, and what a query marks after a
+/// build.
 #[test]
 fn cover_is_the_largest() {
     for (n, m) in [(0, 0), (0, 2), (2, 0), (1, 3), (3, 1), (2, 3), (3, 2), (3, 3)] {
-        let head = Head { operators: n as u16, rides: m as u16, pairs: 0 };
         for table in 0..1u32 << (n * m) {
             let at = |o: usize, r: usize| table >> (o * m + r) & 1 == 1;
-            let pairs: Pairs =
+            let pairs: Vec<(u16, u16)> =
                 (0..n * m).filter(|p| at(p / m, p % m)).map(|p| ((p / m) as u16, (p % m) as u16)).collect();
-            let clearances = Clearances::new(head, &pairs);
-            for (alpha, beta) in (1..=m + 1).flat_map(|a| (1..=n + 1).map(move |b| (a, b))) {
-                let meets = |set: u32| {
+            let mut board = Store::new(n as u16, m as u16, &pairs);
+            assert_eq!(board.build(1), 0);
+            let clearances = Clearances::new(board.head, &pairs.iter().copied().collect());
+            for (alpha, beta) in (0..=m + 1).flat_map(|a| (0..=n + 1).map(move |b| (a, b))) {
+                let meets = |set: &u32| {
                     let has = |node: usize| set >> node & 1 == 1;
                     (0..n).all(|o| !has(o) || (0..m).filter(|&r| has(n + r) && at(o, r)).count() >= alpha)
                         && (0..m).all(|r| !has(n + r) || (0..n).filter(|&o| has(o) && at(o, r)).count() >= beta)
                 };
+                let marks = |set: u32| (0..n + m).map(|node| (set >> node & 1) as u16).collect::<Vec<u16>>();
+                let sets: Vec<u32> = (0..1u32 << (n + m)).filter(meets).collect();
+                for came in 0..1u32 << (n + m) {
+                    let largest = sets.iter().filter(|&set| set & !came == 0).fold(0, |all, set| all | set);
+                    assert!(meets(&largest));
+                    let mut left = marks(came);
+                    let steps = came.count_ones() as u16 - largest.count_ones() as u16;
+                    let peeled = board.peel(&mut left, alpha as u16, beta as u16, 65535);
+                    assert_eq!((peeled, left), (Peeled { code: 0, settled: 1, steps }, marks(largest)));
+                }
+                let largest = marks(sets.iter().fold(0, |all, set| all | set));
                 let (operators, rides) = core(&clearances, alpha, beta);
-                let largest: u32 =
-                    operators.numbers().chain(rides.numbers().map(|r| n + r)).map(|node| 1 << node).sum();
-                assert!(meets(largest));
-                assert!((0..1u32 << (n + m)).filter(|&set| meets(set)).all(|set| set & !largest == 0));
+                let found: Vec<u16> =
+                    (0..n).map(|o| operators.has(o)).chain((0..m).map(|r| rides.has(r))).map(u16::from).collect();
+                assert_eq!(found, largest);
+                let (operators, rides) = (largest[..n].iter().sum(), largest[n..].iter().sum());
+                let counts = Counts { code: 0, operators, rides };
+                assert_eq!(board.query(alpha as u16, beta as u16), (counts, largest));
             }
         }
     }

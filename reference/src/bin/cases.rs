@@ -4,16 +4,12 @@
 
 use reference::frames::{replay_cover, write_end, Call, Framed, Memory, Outcome, Part, Reference};
 use reference::frames::{INDEX_PLACES, PAIR_PLACES};
-use reference::{Head, Lengths, Message, Parts, Vectors, GRANT, WITHDRAWAL};
+use reference::samples::{Pair, BY_NO_INDEX, LIMITS_FROM_0, NO_INDEX, PAIRS, PEELS_FROM_0, SHORT_FROM_0};
+use reference::{cover, Head, Lengths, Message, Parts, Vectors, GRANT, WITHDRAWAL};
 use std::collections::{BTreeMap, BTreeSet};
 use std::path::Path;
 
 const SEED: u64 = 20_250_101;
-
-type Pair = (u16, u16);
-
-/// The board of document 01's samples.
-const SAMPLE: [Pair; 7] = [(0, 0), (0, 1), (1, 0), (1, 1), (2, 1), (2, 2), (3, 2)];
 
 /// Words that are near an edge of 16 bits, of a size or of a mark.
 const ODD_WORDS: [u16; 8] = [0, 1, 2, 7, 255, 256, 32768, 65535];
@@ -93,20 +89,91 @@ impl Random {
     }
 }
 
+// What is given
+
+/// The kinds of limits that have a 0 among them. The last is for queries alone.
+const ZEROS: [&str; 7] = [
+    "alpha 0 alone",
+    "beta 0 alone",
+    "both limits 0",
+    "beta 0 and alpha above rides",
+    "a limit 0 and no ride",
+    "a limit 0 and no operator",
+    "a limit 0 and the index of no board",
+];
+
+/// How often each call gave each number, and was given limits of each kind that has a 0 without being refused.
+#[derive(Default)]
+struct Tally {
+    numbers: BTreeMap<(&'static str, u16), usize>,
+    zeros: BTreeMap<(&'static str, &'static str), usize>,
+}
+
+impl Tally {
+    fn gave(&mut self, name: &'static str, code: u16) {
+        *self.numbers.entry((name, code)).or_default() += 1;
+    }
+
+    /// Counts the limits of a call that wasn't refused, under each kind of `ZEROS` that they are of. Words above
+    /// operators are no levels.
+    fn limits(&mut self, name: &'static str, head: Head, alpha: u16, beta: u16, index: &[u16]) {
+        let has_zero = alpha == 0 || beta == 0;
+        let are = [
+            alpha == 0 && beta != 0,
+            alpha != 0 && beta == 0,
+            alpha == 0 && beta == 0,
+            beta == 0 && alpha > head.rides,
+            has_zero && head.rides == 0,
+            has_zero && head.operators == 0,
+            has_zero && index.iter().any(|word| *word > head.operators),
+        ];
+        for (kind, _) in ZEROS.into_iter().zip(are).filter(|(_, is)| *is) {
+            *self.zeros.entry((name, kind)).or_default() += 1;
+        }
+    }
+
+    /// A call gives each of these numbers at least `least` times, and no other one. 11 is in no list: it is never given.
+    fn covers(&self, name: &'static str, numbers: &[u16], least: usize) {
+        for number in numbers {
+            let times = self.numbers.get(&(name, *number)).copied().unwrap_or(0);
+            assert!(times >= least, "{name}: {number} given {times} times only");
+        }
+        for (call, number) in self.numbers.keys() {
+            assert!(*call != name || numbers.contains(number), "{name}: {number} is given");
+        }
+    }
+
+    /// A call is given limits of each kind at least `least` times.
+    fn covers_zeros(&self, name: &'static str, kinds: &[&'static str], least: usize) {
+        for kind in kinds {
+            let times = self.zeros.get(&(name, *kind)).copied().unwrap_or(0);
+            assert!(times >= least, "{name}: {kind} {times} times only");
+        }
+    }
+
+    fn print(&self) {
+        for ((call, code), times) in &self.numbers {
+            println!("  {call}: {code} given {times} times");
+        }
+        for ((call, kind), times) in &self.zeros {
+            println!("  {call}: {kind} {times} times");
+        }
+    }
+}
+
 // A stream
 
-/// A stream being written and what replaying it gives, the memory that its calls leave, and how often each call gave
-/// each number.
+/// A stream being written and what replaying it gives, the memory that its calls leave, and what they gave.
 struct Stream {
     bytes: Vec<u8>,
     text: String,
     memory: Memory,
-    given: BTreeMap<(&'static str, u16), usize>,
+    tally: Tally,
 }
 
 impl Stream {
     fn new() -> Self {
-        Stream { bytes: Vec::new(), text: String::new(), memory: Memory::default(), given: BTreeMap::new() }
+        Stream { bytes: Vec::new(), text: String::new(), memory: Memory::default(), tally: Tally::default() }
     }
 
     fn call(&mut self, call: Call) -> (Outcome, Head) {
@@ -115,31 +182,35 @@ impl Stream {
         self.text += &format!("{outcome}\n");
         let code = outcome.numbers[0];
         match call {
-            Call::Build { .. } => self.gave("build", code),
-            Call::Query { .. } => self.gave("query", code),
-            Call::Peel { .. } => self.gave("peel", code),
-            Call::Message { .. } => self.gave("message", code),
+            Call::Build { .. } => self.tally.gave("build", code),
+            Call::Query { head, alpha, beta, .. } => {
+                self.tally.gave("query", code);
+                if code == 0 {
+                    self.tally.limits("query", head, alpha, beta, &self.memory.parts.index[..head.words()]);
+                }
+            }
+            Call::Peel { head, alpha, beta, .. } => {
+                self.tally.gave("peel", code);
+                if code == 0 {
+                    self.tally.limits("peel", head, alpha, beta, &[]);
+                }
+            }
+            Call::Message { .. } => self.tally.gave("message", code),
             Call::Messages { messages, .. } => {
-                self.gave("message list", code);
+                self.tally.gave("message list", code);
                 let answered = if code == 0 { messages.len() } else { 0 };
                 for place in 0..answered {
-                    self.gave("message of a list", self.memory.answers[place]);
+                    self.tally.gave("message of a list", self.memory.answers[place]);
                 }
             }
         }
         (outcome, head)
     }
 
-    fn gave(&mut self, name: &'static str, code: u16) {
-        *self.given.entry((name, code)).or_default() += 1;
-    }
-
-    /// Every number that a call can give is given at least `least` times.
-    fn covers(&self, name: &'static str, numbers: &[u16], least: usize) {
-        for number in numbers {
-            let times = self.given.get(&(name, *number)).copied().unwrap_or(0);
-            assert!(times >= least, "{name}: {number} given {times} times only");
-        }
+    /// Makes a call whose answer and marks were worked out by hand.
+    fn gives(&mut self, call: Call, numbers: &[u16], marks: &[u16]) {
+        let (outcome, _) = self.call(call);
+        assert_eq!((&outcome.numbers[..], &self.memory.marks[..marks.len()]), (numbers, marks));
     }
 }
 
@@ -178,6 +249,16 @@ impl Draft {
         let listed = random.pick(&[0, 1, 2, 3, 3, 4, 5, 6]);
         let pairs = random.table(operators, rides, listed, 6);
         Self::new(random, operators, rides, &pairs)
+    }
+
+    /// A board for limits to be tried on: a small one, or one in five times one with no operator or no ride.
+    fn small_or_one_sided(random: &mut Random) -> Self {
+        let nodes = random.below(4) as u16;
+        match random.below(10) {
+            0 => Self::new(random, 0, nodes, &[]),
+            1 => Self::new(random, nodes, 0, &[]),
+            _ => Self::small(random),
+        }
     }
 
     fn parts(&self) -> Framed {
@@ -279,16 +360,26 @@ fn faults(random: &mut Random) -> usize {
     random.pick(&[0, 0, 0, 1, 1, 1, 1, 1, 2, 2, 2, 3])
 }
 
+/// How many faults a case with limits gets: half of them get none.
+fn few_faults(random: &mut Random) -> usize {
+    if random.one_in(3) {
+        0
+    } else {
+        faults(random)
+    }
+}
+
 fn marks_of(random: &mut Random, nodes: usize) -> Vec<u16> {
     let ones = random.pick(&[1, 2, 6, 6, 6]);
     (0..nodes).map(|_| (random.below(6) < ones) as u16).collect()
 }
 
-/// Limits at and around those that can be met.
+/// Limits at and around those that can be met; one in four is 0.
 fn limit(random: &mut Random, most: u16) -> u16 {
     match random.below(8) {
-        0 => most.saturating_add(1),
-        1 => random.pick(&[most.saturating_add(2), 65_535, most.max(1)]),
+        0..=1 => 0,
+        2 => most.saturating_add(1),
+        3 => random.pick(&[most.saturating_add(2), 65_535, most.max(1)]),
         _ => 1 + random.below(most.clamp(1, 4) as usize) as u16,
     }
 }
@@ -324,45 +415,43 @@ fn built(draft: &Draft) -> Vectors {
 }
 
 fn query_case(random: &mut Random) -> Call {
-    let mut draft = Draft::small(random);
+    let mut draft = Draft::small_or_one_sided(random);
     draft.words.index = index_words(random, &draft);
     let nodes = draft.head.nodes();
     let mut marks = Part::filled(random.length(nodes), random.word());
-    let mut alpha = limit(random, draft.head.rides);
-    let mut beta = limit(random, draft.head.operators);
+    let alpha = limit(random, draft.head.rides);
+    let beta = limit(random, draft.head.operators);
     if random.one_in(5) {
         draft.head.pairs = random.word();
     }
-    for _ in 0..faults(random) {
-        match random.below(5) {
+    for _ in 0..few_faults(random) {
+        match random.below(3) {
             0 => {
                 draft.oversize(random);
                 marks.len = draft.head.nodes().min(265);
             }
             1 => draft.lengths.index = random.short(draft.head.words()).min(20),
-            2 => marks.len = random.short(nodes),
-            3 => alpha = 0,
-            _ => beta = 0,
+            _ => marks.len = random.short(nodes),
         }
     }
     Call::Query { head: draft.head, alpha, beta, index: draft.parts().index, marks }
 }
 
 fn peel_case(random: &mut Random) -> Call {
-    let mut draft = Draft::small(random);
+    let mut draft = Draft::small_or_one_sided(random);
     let nodes = draft.head.nodes();
     let mut words = marks_of(random, nodes);
     let mut marks_len = random.length(nodes);
-    let mut alpha = limit(random, draft.head.rides);
-    let mut beta = limit(random, draft.head.operators);
+    let alpha = limit(random, draft.head.rides);
+    let beta = limit(random, draft.head.operators);
     let steps = match random.below(4) {
         0 => random.below(nodes + 2) as u16,
         1 => random.below(4) as u16,
         2 => nodes as u16,
         _ => 65_535,
     };
-    for _ in 0..faults(random) {
-        match random.below(8) {
+    for _ in 0..few_faults(random) {
+        match random.below(7) {
             0 => {
                 draft.oversize(random);
                 marks_len = draft.head.nodes().min(265);
@@ -370,9 +459,7 @@ fn peel_case(random: &mut Random) -> Call {
             1 => draft.shorten_pairs(random),
             2 => marks_len = random.short(nodes),
             3 => draft.too_many_pairs(random),
-            4 => draft.disorder(random),
-            5 => alpha = 0,
-            6 => beta = 0,
+            4..=5 => draft.disorder(random),
             _ => {
                 if nodes > 0 {
                     words[random.below(nodes)] = random.pick(&[2, 3, 256, 65_535]);
@@ -636,16 +723,16 @@ fn delivery_case(random: &mut Random, stream: &mut Stream) {
     }
 }
 
-// Samples of document 01
+// Samples of documents 01 and 02
 
 fn sample_draft(random: &mut Random) -> Draft {
-    Draft::new(random, 4, 3, &SAMPLE)
+    Draft::new(random, 4, 3, &PAIRS)
 }
 
 fn sample_calls(random: &mut Random, stream: &mut Stream) {
     let draft = sample_draft(random);
     stream.call(draft.build(1));
-    for (alpha, beta) in [(1, 3), (1, 4), (2, 2), (4, 1), (65_535, 1), (1, 65_535)] {
+    for (alpha, beta) in [(1, 3), (1, 4), (2, 2), (4, 1), (65_535, 1), (1, 65_535), (65_535, 0), (0, 65_535)] {
         let query = kept_query(random, draft.head, alpha, beta);
         stream.call(query);
     }
@@ -661,6 +748,37 @@ fn sample_calls(random: &mut Random, stream: &mut Stream) {
         let mut draft = Draft::new(random, operators, rides, &[(0, 0), (3, 4), (199, 59)]);
         draft.lengthen();
         stream.call(draft.build(1));
+    }
+}
+
+/// Document 02's limits from 0, with what was worked out by hand.
+fn samples_from_0(random: &mut Random, stream: &mut Stream) {
+    for sample in LIMITS_FROM_0 {
+        let draft = Draft::new(random, sample.operators, sample.rides, sample.pairs);
+        stream.call(draft.build(1));
+        let query = kept_query(random, draft.head, sample.alpha, sample.beta);
+        let [operators, rides] = sample.counts();
+        stream.gives(query, &[0, operators, rides], sample.marks);
+        let marks = all_ones(random, draft.head);
+        let peel = kept_peel(random, draft.head, sample.alpha, sample.beta, 65_535, marks);
+        stream.gives(peel, &[0, 1, sample.steps()], sample.marks);
+    }
+    let head = Head { operators: 2, rides: 2, pairs: 0 };
+    for &(alpha, beta, expected) in BY_NO_INDEX {
+        let index = Part::given(random.length(8), &NO_INDEX, random.word());
+        let marks = Part::filled(random.length(4), random.word());
+        let query = Call::Query { head, alpha, beta, index, marks };
+        stream.gives(query, &[0, expected[0] + expected[1], expected[2] + expected[3]], &expected);
+    }
+    for &(operators, rides, index, marks, (alpha, beta)) in SHORT_FROM_0 {
+        let head = Head { operators, rides, pairs: 0 };
+        let query = Call::Query { head, alpha, beta, index: Part::filled(index, 1), marks: Part::filled(marks, 9) };
+        stream.gives(query, &[3, 0, 0], &vec![9; marks]);
+    }
+    let draft = sample_draft(random);
+    for &(marks, (alpha, beta), steps, numbers, left) in PEELS_FROM_0 {
+        let marks = Part::given(random.length(7), &marks, random.word());
+        stream.gives(draft.peel(alpha, beta, steps, marks), &numbers, &left);
     }
 }
 
@@ -697,6 +815,14 @@ fn large_tables(random: &mut Random) -> Vec<(u16, u16, Vec<Pair>)> {
     tables
 }
 
+/// A limit that is 0, or at least one of these.
+fn large_limit(random: &mut Random, most: u16, these: [u16; 3]) -> u16 {
+    match limit(random, most) {
+        0 => 0,
+        limit => limit.max(random.pick(&these)),
+    }
+}
+
 fn large_calls(random: &mut Random, stream: &mut Stream) {
     for (operators, rides, pairs) in large_tables(random) {
         let draft = Draft::new(random, operators, rides, &pairs);
@@ -704,8 +830,8 @@ fn large_calls(random: &mut Random, stream: &mut Stream) {
         let mean_alpha = (pairs.len() / operators as usize) as u16;
         let mean_beta = (pairs.len() / rides as usize) as u16;
         for _ in 0..12 {
-            let alpha = limit(random, rides).max(random.pick(&[1, mean_alpha, mean_alpha.saturating_sub(2)]));
-            let beta = limit(random, operators).max(random.pick(&[1, mean_beta, mean_beta.saturating_sub(5)]));
+            let alpha = large_limit(random, rides, [1, mean_alpha, mean_alpha.saturating_sub(2)]);
+            let beta = large_limit(random, operators, [1, mean_beta, mean_beta.saturating_sub(5)]);
             let query = kept_query(random, draft.head, alpha, beta);
             stream.call(query);
             let words = marks_of(random, draft.head.nodes());
@@ -768,17 +894,15 @@ fn cover_input(head: Head, pairs: &[Pair], alpha: u16, beta: u16) -> Vec<u8> {
 }
 
 fn cover_case(random: &mut Random) -> Vec<u8> {
-    let mut draft = Draft::small(random);
-    let mut alpha = limit(random, draft.head.rides);
-    let mut beta = limit(random, draft.head.operators);
+    let mut draft = Draft::small_or_one_sided(random);
+    let alpha = limit(random, draft.head.rides);
+    let beta = limit(random, draft.head.operators);
     let mut length_off: isize = 0;
-    for _ in 0..faults(random) {
-        match random.below(7) {
+    for _ in 0..few_faults(random) {
+        match random.below(6) {
             0 => draft.oversize(random),
             1 => draft.too_many_pairs(random),
-            2 => draft.disorder(random),
-            3 => alpha = 0,
-            4 => beta = 0,
+            2..=3 => draft.disorder(random),
             _ => length_off = random.pick(&[-1, 1, -2, 2, -4, 4, 3, -3, 100, -1000]),
         }
     }
@@ -791,10 +915,15 @@ fn cover_case(random: &mut Random) -> Vec<u8> {
 
 fn cover_inputs(random: &mut Random) -> Vec<Vec<u8>> {
     let sample = Head { operators: 4, rides: 3, pairs: 7 };
-    let whole = cover_input(sample, &SAMPLE, 2, 2);
+    let whole = cover_input(sample, &PAIRS, 2, 2);
     let mut inputs = vec![whole.clone()];
-    for (alpha, beta) in [(1, 3), (1, 4), (3, 1), (4, 1), (1, 5), (65_535, 65_535), (0, 0), (1, 1)] {
-        inputs.push(cover_input(sample, &SAMPLE, alpha, beta));
+    for (alpha, beta) in [(1, 3), (1, 4), (3, 1), (4, 1), (1, 5), (65_535, 65_535), (65_535, 0), (0, 65_535), (1, 1)] {
+        inputs.push(cover_input(sample, &PAIRS, alpha, beta));
+    }
+    for sample in LIMITS_FROM_0 {
+        let input = cover_input(sample.head(), sample.pairs, sample.alpha, sample.beta);
+        assert_eq!(cover(&input), sample.text.as_bytes());
+        inputs.push(input);
     }
     inputs.extend((0..whole.len()).map(|length| whole[..length].to_vec()));
     for (operators, rides) in [(200, 60), (201, 60), (200, 61), (201, 61)] {
@@ -805,7 +934,9 @@ fn cover_inputs(random: &mut Random) -> Vec<Vec<u8>> {
         let head = Head { operators, rides, pairs: pairs.len() as u16 };
         let alpha = (pairs.len() / operators as usize).max(1) as u16;
         let beta = (pairs.len() / rides as usize).max(1) as u16;
-        inputs.push(cover_input(head, &pairs, alpha.saturating_sub(3).max(1), beta.saturating_sub(8).max(1)));
+        let alpha = if random.one_in(4) { 0 } else { alpha.saturating_sub(3).max(1) };
+        let beta = if random.one_in(4) { 0 } else { beta.saturating_sub(8).max(1) };
+        inputs.push(cover_input(head, &pairs, alpha, beta));
     }
     let full = random.table_of(200, 60, 12_000);
     let head = Head { operators: 200, rides: 60, pairs: 12_000 };
@@ -820,6 +951,7 @@ fn cover_inputs(random: &mut Random) -> Vec<Vec<u8>> {
 fn calls(random: &mut Random) -> Stream {
     let mut stream = Stream::new();
     sample_calls(random, &mut stream);
+    samples_from_0(random, &mut stream);
     for _ in 0..2_600 {
         let case = build_case(random);
         stream.call(case);
@@ -831,9 +963,12 @@ fn calls(random: &mut Random) -> Stream {
     large_refusals(random, &mut stream);
     large_calls(random, &mut stream);
     write_end(&mut stream.bytes);
-    stream.covers("build", &[0, 1, 2, 3, 4, 5, 9], 60);
-    stream.covers("query", &[0, 1, 2, 3, 11], 60);
-    stream.covers("peel", &[0, 1, 2, 3, 4, 5, 11, 12], 60);
+    let tally = &stream.tally;
+    tally.covers("build", &[0, 1, 2, 3, 4, 5, 9], 60);
+    tally.covers("query", &[0, 1, 2, 3], 60);
+    tally.covers("peel", &[0, 1, 2, 3, 4, 5, 12], 60);
+    tally.covers_zeros("query", &ZEROS, 30);
+    tally.covers_zeros("peel", &ZEROS[..6], 30);
     stream
 }
 
@@ -851,17 +986,52 @@ fn deliveries(random: &mut Random) -> Stream {
     }
     large_deliveries(random, &mut stream);
     write_end(&mut stream.bytes);
-    stream.covers("message", &[0, 1, 2, 3, 4, 5, 6, 7, 8, 9, 10], 30);
-    stream.covers("message list", &[0, 1, 2, 3, 4, 5, 6], 30);
-    stream.covers("message of a list", &[0, 7, 8, 9, 10], 30);
+    let tally = &stream.tally;
+    tally.covers("build", &[0], 30);
+    tally.covers("query", &[0], 30);
+    tally.covers("peel", &[0], 30);
+    tally.covers("message", &[0, 1, 2, 3, 4, 5, 6, 7, 8, 9, 10], 30);
+    tally.covers("message list", &[0, 1, 2, 3, 4, 5, 6], 30);
+    tally.covers("message of a list", &[0, 7, 8, 9, 10], 30);
     stream
 }
 
-fn write(folder: &Path, stdin: &[u8], stdout: &[u8]) {
+/// The number that an output of `cover` tells, and the limits and sizes of an input that isn't refused.
+fn tally_cover(tally: &mut Tally, input: &[u8], output: &[u8]) {
+    let text = std::str::from_utf8(output).expect("the output is text");
+    if let Some(number) = text.strip_prefix("refused ") {
+        return tally.gave("cover", number.trim_end().parse().expect("a number"));
+    }
+    tally.gave("cover", 0);
+    let word = |at: usize| u16::from_le_bytes([input[at], input[at + 1]]);
+    let head = Head { operators: word(0), rides: word(2), pairs: word(4) };
+    tally.limits("cover", head, word(input.len() - 4), word(input.len() - 2), &[]);
+}
+
+/// A stream of inputs of `cover`, the outputs, and what they tell.
+fn covers(random: &mut Random) -> (Vec<u8>, Vec<u8>, Tally) {
+    let mut stream = Vec::new();
+    for input in cover_inputs(random) {
+        stream.extend(u16::try_from(input.len()).expect("an input of at most 65535 bytes").to_le_bytes());
+        stream.extend(input);
+    }
+    let mut tally = Tally::default();
+    let text = replay_cover(&stream, |input| {
+        let output = cover(input);
+        tally_cover(&mut tally, input, &output);
+        output
+    });
+    tally.covers("cover", &[0, 1, 2, 4, 5, 13], 30);
+    tally.covers_zeros("cover", &ZEROS[..6], 15);
+    (stream, text, tally)
+}
+
+fn write(folder: &Path, stdin: &[u8], stdout: &[u8], tally: &Tally) {
     std::fs::create_dir_all(folder).expect("the folder can be made");
     std::fs::write(folder.join("stdin"), stdin).expect("stdin can be written");
     std::fs::write(folder.join("stdout"), stdout).expect("stdout can be written");
     println!("{}: {} bytes in, {} bytes out", folder.display(), stdin.len(), stdout.len());
+    tally.print();
 }
 
 fn main() {
@@ -870,16 +1040,9 @@ fn main() {
     let seed = std::env::args().nth(2).map_or(SEED, |seed| seed.parse().expect("a seed that is a number"));
     let calls = calls(&mut Random(seed));
     let deliveries = deliveries(&mut Random(seed.wrapping_add(1)));
+    let (inputs, outputs, tally) = covers(&mut Random(seed.wrapping_add(2)));
     for (name, stream) in [("replay_calls", calls), ("replay_deliveries", deliveries)] {
-        write(&root.join(name), &stream.bytes, stream.text.as_bytes());
-        for ((call, code), times) in &stream.given {
-            println!("  {call}: {code} given {times} times");
-        }
+        write(&root.join(name), &stream.bytes, stream.text.as_bytes(), &stream.tally);
     }
-    let mut stream = Vec::new();
-    for input in cover_inputs(&mut Random(seed.wrapping_add(2))) {
-        stream.extend(u16::try_from(input.len()).expect("an input of at most 65535 bytes").to_le_bytes());
-        stream.extend(input);
-    }
-    write(&root.join("replay_cover"), &stream, &replay_cover(&stream, reference::cover));
+    write(&root.join("replay_cover"), &inputs, &outputs, &tally);
 }
