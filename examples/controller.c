@@ -5,6 +5,8 @@
  *
  *     controller TRACE ALPHA BETA
  *
+ * ALPHA may be 0, no limit. BETA is from 1: under no limit each ride would get a permit, also one without operators.
+ *
  * A line of the trace is `KIND OPERATOR RIDE STAMP`, all numbers, kind 1 a grant and 2 a withdrawal; what follows a #
  * is a comment. At the end the same messages are given to a second board in the order of their stamps, as one message
  * list. Exit status 0 says that the two boards are the same, word for word.
@@ -108,7 +110,7 @@ static int same(void) {
            memcmp(&arriving_memory, &in_order_memory, sizeof arriving_memory) == 0;
 }
 
-/* A limit, 16 bits; the board refuses 0. */
+/* A limit, 16 bits. */
 static uint16_t read_limit(const char *word) {
     char *end;
     unsigned long limit = strtoul(word, &end, 10);
@@ -122,6 +124,8 @@ int main(int count, char **words) {
         stop("usage: controller TRACE ALPHA BETA");
     size_t messages = read_trace(words[1]);
     uint16_t alpha = read_limit(words[2]), beta = read_limit(words[3]);
+    if (beta == 0)
+        stop("beta is 0, no limit: a permit needs a limit from 1");
 
     check(board_build_on(&arriving, START));
     printf("board: %u operators, %u rides, %u pairs, built at stamp %u; limits (%u,%u)\n", arriving.head.operators,

@@ -1,7 +1,7 @@
 /*
- * The plain calls beside the functions over a Board: both ways on equal memory, with parts as long as needed and then
- * with one part after another too short by a place. Prints what the calls answer. Exit status 0 says that each answer
- * and every lent word was the same both ways.
+ * The plain calls beside the functions over a Board: both ways on equal memory, with parts as long as needed, with one
+ * part after another too short by a place, and with limits of 0. Prints what the calls answer. Exit status 0 says that
+ * each answer and every lent word was the same both ways.
  */
 #include <stdio.h>
 #include <string.h>
@@ -23,20 +23,25 @@ BOARD_STORAGE(empty, 0, 0);
 static const BoardMessage grant = {BOARD_GRANT, 3, 1, 20};
 static const BoardMessage list[MESSAGES] = {{BOARD_GRANT, 3, 1, 19}, {BOARD_WITHDRAWAL, 0, 0, 30}};
 
-/* The lengths that are lent, in places. */
-typedef struct Lengths {
+/* The lengths that are lent, in places, and the limits of query and peel. */
+typedef struct Given {
     const char *title;
     size_t operators, rides, stamps, index, marks, answers;
-} Lengths;
+    uint16_t alpha, beta;
+} Given;
 
-static const Lengths rows[] = {
-    {"as needed", 12, 12, 12, 21, 7, 2},
-    {"operators short", 11, 12, 12, 21, 7, 2},
-    {"rides short", 12, 11, 12, 21, 7, 2},
-    {"stamps short", 12, 12, 11, 21, 7, 2},
-    {"index short", 12, 12, 12, 20, 7, 2},
-    {"marks short", 12, 12, 12, 21, 6, 2},
-    {"answers short", 12, 12, 12, 21, 7, 1},
+static const Given rows[] = {
+    {"as needed", 12, 12, 12, 21, 7, 2, 1, 3},
+    {"operators short", 11, 12, 12, 21, 7, 2, 1, 3},
+    {"rides short", 12, 11, 12, 21, 7, 2, 1, 3},
+    {"stamps short", 12, 12, 11, 21, 7, 2, 1, 3},
+    {"index short", 12, 12, 12, 20, 7, 2, 1, 3},
+    {"marks short", 12, 12, 12, 21, 6, 2, 1, 3},
+    {"answers short", 12, 12, 12, 21, 7, 1, 1, 3},
+    {"alpha 0, beta 3", 12, 12, 12, 21, 7, 2, 0, 3},
+    {"alpha 2, beta 0", 12, 12, 12, 21, 7, 2, 2, 0},
+    {"alpha 4, beta 0", 12, 12, 12, 21, 7, 2, 4, 0},
+    {"alpha 0, beta 0", 12, 12, 12, 21, 7, 2, 0, 0},
 };
 
 /* What the calls answer, and the lent words outside the storage. */
@@ -56,7 +61,7 @@ static const Outcome before = {
     {OPERATORS, RIDES, PAIRS}, 0, {0, 0, 0}, {9, 9, 9, 9, 9, 9, 9}, {0, 0, 0}, {1, 1, 1, 1, 1, 1, 1}, {0, 0}, 0, {9, 9},
 };
 
-static Outcome over_a_board(const Lengths *n) {
+static Outcome over_a_board(const Given *n) {
     Outcome out = before;
     Board board = BOARD_OVER(memory, OPERATORS, RIDES, PAIRS);
     board.operators_length = n->operators;
@@ -64,21 +69,21 @@ static Outcome over_a_board(const Lengths *n) {
     board.stamps_length = n->stamps;
     board.index_length = n->index;
     out.build = board_build_on(&board, 10);
-    out.query = board_query_on(&board, 1, 3, out.queried, n->marks);
-    out.peel = board_peel_on(&board, out.peeled, n->marks, 1, 3, 2);
+    out.query = board_query_on(&board, n->alpha, n->beta, out.queried, n->marks);
+    out.peel = board_peel_on(&board, out.peeled, n->marks, n->alpha, n->beta, 2);
     out.message = board_message_on(&board, grant);
     out.messages = board_messages_on(&board, list, MESSAGES, out.answers, n->answers);
     out.head = board.head;
     return out;
 }
 
-static Outcome plainly(const Lengths *n) {
+static Outcome plainly(const Given *n) {
     Outcome out = before;
     out.build = board_build(out.head, other.operators, n->operators, other.rides, n->rides, 10, other.stamps, n->stamps,
                             other.index, n->index);
-    out.query = board_query(out.head, other.index, n->index, 1, 3, out.queried, n->marks);
-    out.peel = board_peel(out.head, other.operators, n->operators, other.rides, n->rides, out.peeled, n->marks, 1, 3,
-                          2);
+    out.query = board_query(out.head, other.index, n->index, n->alpha, n->beta, out.queried, n->marks);
+    out.peel = board_peel(out.head, other.operators, n->operators, other.rides, n->rides, out.peeled, n->marks,
+                          n->alpha, n->beta, 2);
     out.message = board_message(&out.head, other.operators, n->operators, other.rides, n->rides, other.stamps,
                                 n->stamps, other.index, n->index, grant);
     out.messages = board_messages(&out.head, other.operators, n->operators, other.rides, n->rides, other.stamps,

@@ -3,8 +3,8 @@
  *
  * A board says which operator is cleared for which ride. Operators have the numbers 0 to operators - 1, rides 0 to
  * rides - 1. Cover (alpha, beta) is the largest set of operators and rides in which each operator is cleared for at
- * least alpha rides of the set, and each ride has at least beta operators of it. The level of an operator or ride in
- * row alpha is the largest beta from 1 whose cover (alpha, beta) holds it, or 0.
+ * least alpha rides of the set, and each ride has at least beta operators of it. A limit of 0 is no limit. The level of
+ * an operator or ride in row alpha is the largest beta from 1 whose cover (alpha, beta) holds it, or 0.
  *
  * The library has no memory of its own and asks for none: the caller lends every part of the board to each call. A
  * board of 200 operators and 60 rides in static memory, a message, and a dispatch permit for one ride:
@@ -35,7 +35,7 @@
  *
  * For firmware (docs/INTERFACE.md says more):
  * - x86-64, System V calling convention, SSE2 and no more; no use of the red zone below the stack pointer.
- * - Deepest stack in bytes, measured at 200 x 60 (docs/BENCHMARK.md): build 25,728, query 88, peel 27,808, message
+ * - Deepest stack in bytes, measured at 200 x 60 (docs/BENCHMARK.md): build 25,728, query 96, peel 27,808, message
  *   25,776, message list 25,792.
  * - No writable data; of the program it needs memcpy, memmove and memset at most.
  * - A reset in the middle of a call leaves a mixture of old and new words: build again from a pair table, and send the
@@ -60,7 +60,7 @@ extern "C" {
 
 /* The version of this header (docs/CHANGELOG.md), as a number to compare: 1.2.3 is 10203. */
 #define BOARD_VERSION_MAJOR 1
-#define BOARD_VERSION_MINOR 1
+#define BOARD_VERSION_MINOR 2
 #define BOARD_VERSION_PATCH 0
 #define BOARD_VERSION (BOARD_VERSION_MAJOR * 10000 + BOARD_VERSION_MINOR * 100 + BOARD_VERSION_PATCH)
 
@@ -98,12 +98,15 @@ extern "C" {
 #define BOARD_OPERATOR_MARK(operator_number) ((size_t)(operator_number))
 #define BOARD_RIDE_MARK(operators, ride) ((size_t)(operators) + (size_t)(ride))
 
-/* The first word of row alpha, from 1, in the index; in a row the levels lie as marks do. */
+/*
+ * The first word of row alpha in the index, for alpha from 1 to rides; in a row the levels lie as marks do. The index
+ * has no row 0: a query with alpha 0 reads row 1.
+ */
 #define BOARD_ROW(operators, rides, alpha) (((size_t)(alpha) - 1) * ((size_t)(operators) + (size_t)(rides)))
 
 /*
- * The numbers of document 01 (docs/SCOPE.md). The lowest one that applies is given; of 1 to 12 a call checks those
- * named beside it below.
+ * The numbers of document 01 (docs/SCOPE.md). The lowest one that applies is given; of 1 to 10 and 12 a call checks
+ * those named beside it below.
  */
 enum BoardNumber {
     BOARD_DONE = 0,               /* done or taken */
@@ -117,7 +120,7 @@ enum BoardNumber {
     BOARD_OUT_OF_RANGE = 8,       /* message: operator or ride out of range */
     BOARD_STAMP_ZERO = 9,         /* message or starting stamp is 0 */
     BOARD_NOT_LATER = 10,         /* message not later than the pair's last */
-    BOARD_LIMIT_ZERO = 11,        /* alpha or beta is 0 */
+    BOARD_LIMIT_ZERO = 11,        /* retired: never given since 1.2.0 */
     BOARD_MARK_UNKNOWN = 12,      /* peel: a mark in use is not 0 or 1 */
     BOARD_INPUT_LENGTH_WRONG = 13 /* program `cover`: input length wrong; no call answers it */
 };
@@ -208,19 +211,25 @@ uint16_t board_build(BoardHead head, uint16_t *operators, size_t operators_lengt
                      size_t index_length);
 
 /*
- * Query: who is in cover (alpha, beta).
+ * Query: who is in cover (alpha, beta). A limit of 0 is no limit.
  *
- * Reads the head's operators and rides, and row alpha of the index as a build or a message left it.
+ * Reads the head's operators and rides, and row alpha of the index as a build or a message left it, row 1 for alpha 0.
+ * Where the index has no such row, levels are 0.
  *
- * Writes a mark for each operator, then each ride: 1 exactly if its level in row alpha is at least beta, else 0. An
- * alpha above rides marks nobody.
+ * Writes a mark for each operator, then each ride, 1 or 0. An operator's is 1 exactly if alpha is 0 or its level is at
+ * least beta and at least 1; a ride's exactly if beta is 0 or its level is at least beta. So an alpha above rides marks
+ * nobody, or with beta 0 the rides alone; with both limits 0 everybody is marked.
  *
- * Answers BOARD_DONE with the counts of operators and rides marked, or of 1, 2, 3 and 11 the lowest that applies, with
- * counts 0. A refusal leaves every lent word as it was.
+ * Answers BOARD_DONE with the counts of operators and rides marked, or of 1, 2 and 3 the lowest that applies, with
+ * counts 0. An index that is too short is 3 also where no level decides. A refusal leaves every lent word as it was.
  *
- * A damaged index gives permits: where a word of row alpha was set to 60,000, say, its operator or ride is marked. To
- * check the marks, peel all ones on the same board with operators + rides steps: this gives the cover from the pair
- * arrays alone, and its marks must equal the query's.
+ * Never take a dispatch permit from beta 0: every ride is then marked, also one that no operator is cleared for. A
+ * permit needs a query or peel with beta from 1.
+ *
+ * A damaged index gives permits: where a word of the row was set to 60,000, say, its operator or ride is marked. All
+ * operators where alpha is 0, and all rides where beta is 0, are marked whatever the index holds. To check the marks,
+ * peel all ones on the same board under the same limits with operators + rides steps: this gives the cover from the
+ * pair arrays alone, and its marks must equal the query's.
  */
 BoardCounts board_query(BoardHead head, const uint16_t *index, size_t index_length, uint16_t alpha, uint16_t beta,
                         uint16_t *marks, size_t marks_length);
@@ -230,13 +239,14 @@ BoardCounts board_query(BoardHead head, const uint16_t *index, size_t index_leng
  *
  * Reads the head, the listed pairs and the marks, each 0 or 1. One step clears the mark of the lowest-numbered marked
  * operator with fewer than alpha marked rides; if there is none, of the lowest-numbered marked ride with fewer than
- * beta marked operators.
+ * beta marked operators. A limit of 0 is no limit: nobody falls short of it. So a peel with beta 0 keeps every marked
+ * ride, and no dispatch permit comes from it.
  *
  * Writes the marks as the steps leave them, at most `steps` of them.
  *
  * Answers BOARD_DONE with BOARD_SETTLED when nobody falls short, or with BOARD_UNSETTLED exactly if all allowed steps
  * were taken and somebody still falls short, and with the steps taken. Settled marks are the largest set inside the
- * marks that came in; from all ones that is cover (alpha, beta). Or of 1 to 5, 11 and 12 the lowest that applies, with
+ * marks that came in; from all ones that is cover (alpha, beta). Or of 1 to 5 and 12 the lowest that applies, with
  * settled and steps 0. A refusal leaves every lent word as it was.
  */
 BoardPeeled board_peel(BoardHead head, const uint16_t *operators, size_t operators_length, const uint16_t *rides,
@@ -375,7 +385,7 @@ static inline const char *board_text(uint16_t code) {
     case BOARD_NOT_LATER:
         return "message not later than the pair's last";
     case BOARD_LIMIT_ZERO:
-        return "alpha or beta is 0";
+        return "retired: limits may be 0";
     case BOARD_MARK_UNKNOWN:
         return "peel: a mark in use is not 0 or 1";
     case BOARD_INPUT_LENGTH_WRONG:

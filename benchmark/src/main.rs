@@ -115,6 +115,48 @@ impl Line {
     }
 }
 
+/// The times of a query beside the Rust loop, and the marks. Both read the board's index and write the same marks.
+fn queries(case: &Case, board: &Board, alpha: u16, beta: u16) -> ([Vec<f64>; 3], Vec<u16>) {
+    let marks = RefCell::new(vec![0; case.nodes()]);
+    let ask = || board.query(black_box(alpha), black_box(beta), &mut marks.borrow_mut()).unwrap();
+    let levels = board.words().3;
+    let look = || {
+        let (n, m) = (case.operators as usize, case.rides as usize);
+        tables::query(n, m, black_box(levels), black_box(alpha), black_box(beta), &mut marks.borrow_mut())
+    };
+    let mut ask_it = || {
+        black_box(ask());
+    };
+    let mut look_at_it = || {
+        black_box(look());
+    };
+    let times = measure(2000, &mut [&mut ask_it, &mut || {}, &mut look_at_it]);
+    let (counts, asked) = (ask(), marks.replace(vec![0; case.nodes()]));
+    assert!((counts.operators, counts.rides) == look() && asked == *marks.borrow());
+    (times, asked)
+}
+
+/// Queries with limits of 0, which mark as a peel does.
+fn run_without_limits(case: &Case) -> Vec<Line> {
+    let (operators, rides, pairs) = (case.operators, case.rides, case.pairs.len());
+    let mut memory = Box::new(Memory::new());
+    let board = Board::build(memory.parts(), operators, rides, &case.pairs, START).unwrap();
+    let (alpha, beta) = limits(case, &board);
+    let line = |(call, alpha, beta)| {
+        eprintln!("measures {call}, {operators} × {rides}, {pairs} pairs");
+        let (times, asked) = queries(case, &board, alpha, beta);
+        assert!(asked == lists::peel(operators, rides, &case.pairs, alpha, beta).0);
+        Line { call, operators, rides, pairs, times }
+    };
+    let without = [
+        ("query, α = 0", 0, beta),
+        ("query, β = 0", alpha, 0),
+        ("query, α = β = 0", 0, 0),
+        ("query, α above rides, β = 0", rides + 1, 0),
+    ];
+    without.map(line).into()
+}
+
 fn run(case: &Case) -> Vec<Line> {
     let (n, m) = (case.operators, case.rides);
     let line = |call, times| Line { call, operators: n, rides: m, pairs: case.pairs.len(), times };
@@ -141,26 +183,11 @@ fn run(case: &Case) -> Vec<Line> {
     assert!(index == lists.index && index == tables.index && stamps == tables.stamps);
     lines.push(line("build", times));
 
-    // Query, after the build. Both read the board's index and write the same marks.
+    // Query, after the build.
     tell("query");
     let mut board = Board::build(memory.parts(), n, m, &case.pairs, START).unwrap();
     let (alpha, beta) = limits(case, &board);
-    let marks = RefCell::new(vec![0; case.nodes()]);
-    let ask = || board.query(black_box(alpha), black_box(beta), &mut marks.borrow_mut()).unwrap();
-    let levels = board.words().3;
-    let look = || {
-        let (n, m) = (n as usize, m as usize);
-        tables::query(n, m, black_box(levels), black_box(alpha), black_box(beta), &mut marks.borrow_mut())
-    };
-    let mut ask_it = || {
-        black_box(ask());
-    };
-    let mut look_at_it = || {
-        black_box(look());
-    };
-    let times = measure(2000, &mut [&mut ask_it, &mut || {}, &mut look_at_it]);
-    let (counts, asked) = (ask(), marks.replace(vec![0; case.nodes()]));
-    assert!((counts.operators, counts.rides) == look() && asked == *marks.borrow());
+    let (times, asked) = queries(case, &board, alpha, beta);
     lines.push(line("query", times));
 
     // Peel, from all ones, with all steps allowed.
@@ -252,20 +279,28 @@ fn print_bursts() {
     let [library, lists] = bursts();
     let ratio = median(library.iter().zip(&lists).map(|(library, other)| library / other).collect());
     let reached = if ratio <= most { "reached" } else { "NOT reached" };
-    println!("A message list of {BURST} taken messages at 200 × 60 and 6,000 pairs, medians of {} rounds:\n", library.len());
+    println!(
+        "A message list of {BURST} taken messages at 200 × 60 and 6,000 pairs, medians of {} rounds:\n",
+        library.len()
+    );
     println!("- library {:.1} ms, (a) {:.0} ms", median(library), median(lists));
     println!("- at most {most} × (a): {ratio:.4}, {reached}\n");
+}
+
+/// By call; lines of one call stay in their order.
+fn sort(lines: &mut [Line]) {
+    lines.sort_by_key(|line| ["build", "query", "peel", "message"].iter().position(|call| line.call.starts_with(call)));
 }
 
 fn print_lines(lines: &[Line]) {
     println!("| Call | Board | Pairs | library µs | (a) µs | (b) µs | library / (a) | library / (b) |");
     println!("|---|---|---:|---:|---:|---:|---:|---:|");
     for line in lines {
-        let digits = if line.call == "query" { 3 } else { 1 };
         let (library, same) = (line.time(0), line.time(2));
-        let (lists, ratio) = match line.call {
-            "query" => ("".to_string(), "".to_string()),
-            _ => (format!("{:.1}", line.time(1)), format!("{:.2}", line.ratio(1))),
+        let (digits, lists, ratio) = if line.call.starts_with("query") {
+            (3, "".to_string(), "".to_string())
+        } else {
+            (1, format!("{:.1}", line.time(1)), format!("{:.2}", line.ratio(1)))
         };
         println!(
             "| {} | {} × {} | {} | {library:.digits$} | {lists} | {same:.digits$} | {ratio} | {:.2} |",
@@ -292,7 +327,8 @@ fn main() {
     for pairs in [3000, 6000, 12000] {
         lines.extend(run(&Case::new(200, 60, pairs, messages)));
     }
-    lines.sort_by_key(|line| ["build", "query", "peel", "message"].iter().position(|call| *call == line.call));
+    lines.extend(run_without_limits(&Case::new(200, 60, 6000, 0)));
+    sort(&mut lines);
     println!("Microseconds for one call, medians of {ROUNDS} rounds in which the programs take turns.\n");
     print_lines(&lines);
     println!("At 6,000 pairs:\n");
@@ -307,7 +343,7 @@ fn main() {
     for (operators, rides) in [(50, 15), (100, 30), (200, 60)] {
         lines.extend(run(&Case::new(operators, rides, operators as usize * rides as usize / 2, messages)));
     }
-    lines.sort_by_key(|line| ["build", "query", "peel", "message"].iter().position(|call| *call == line.call));
+    sort(&mut lines);
     print_lines(&lines);
     println!("Memory at 200 × 60:\n");
     eprintln!("measures stack and lent memory");

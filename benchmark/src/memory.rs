@@ -20,7 +20,9 @@ fn deepest() -> [usize; 5] {
         let (alpha, beta) = limits(&case, &board);
         let (mut marks, mut answers) = ([1; 260], [0; 12]);
         let peeled = stack::deepest(|| assert!(board.peel(&mut marks, alpha, beta, u16::MAX).is_ok()));
-        let queried = stack::deepest(|| assert!(board.query(alpha, beta, &mut marks).is_ok()));
+        let limits = [(alpha, beta), (0, 0), (61, 0)];
+        let query = |(alpha, beta)| stack::deepest(|| assert!(board.query(alpha, beta, &mut marks).is_ok()));
+        let queried = limits.map(query).into_iter().max().unwrap();
         let (sent, list) = case.messages.split_at(12);
         let taken = sent.iter().map(|&one| stack::deepest(|| assert!(board.message(one).is_ok()))).max().unwrap();
         let listed = stack::deepest(|| assert!(board.messages(list, &mut answers).is_ok()));

@@ -244,7 +244,7 @@ impl Tables {
 
     /// A peel of at most so many steps; whether it settled, and the steps taken.
     pub fn peel(&self, marks: &mut [u16], alpha: u16, beta: u16, allowed: u16) -> Option<(bool, u16)> {
-        if !self.accepted() || alpha == 0 || beta == 0 || marks.iter().any(|&mark| 1 < mark) {
+        if !self.accepted() || marks.iter().any(|&mark| 1 < mark) {
             return None;
         }
         let (n, m, pairs) = (self.operators as usize, self.rides as usize, self.pairs as usize);
@@ -280,20 +280,31 @@ impl Tables {
     }
 }
 
-/// Marks the levels from beta on, and counts them: a plain loop.
-fn mark(levels: &[u16], beta: u16, marks: &mut [u16]) -> u16 {
+/// Marks the levels from `least` on, and counts them: a plain loop.
+fn mark(levels: &[u16], least: u16, marks: &mut [u16]) -> u16 {
     let mut count = 0;
     for (mark, level) in marks.iter_mut().zip(levels) {
-        *mark = (beta <= *level) as u16;
+        *mark = (least <= *level) as u16;
         count += *mark;
     }
     count
 }
 
-/// A plain loop over the row of a query, for operators and then for rides: marks, and the counts. It is called, as the
-/// library is, and not inlined.
+/// A plain loop over the row of a query, for operators and then for rides: marks, and the counts. An operator is marked
+/// if alpha is 0 or its level at least the larger of beta and 1, a ride if beta is 0 or its level at least beta, by the
+/// levels of row alpha, of row 1 for alpha 0; where the index has no such row they are 0. It is called, as the library is,
+/// and not inlined.
 #[inline(never)]
 pub fn query(n: usize, m: usize, index: &[u16], alpha: u16, beta: u16, marks: &mut [u16]) -> (u16, u16) {
-    let row = &index[(alpha as usize - 1) * (n + m)..alpha as usize * (n + m)];
-    (mark(&row[..n], beta, &mut marks[..n]), mark(&row[n..], beta, &mut marks[n..]))
+    let (operators, rides) = marks[..n + m].split_at_mut(n);
+    let row = alpha.max(1) as usize;
+    if m < row {
+        let (all_operators, all_rides) = ((alpha == 0) as u16, (beta == 0) as u16);
+        operators.fill(all_operators);
+        rides.fill(all_rides);
+        return (n as u16 * all_operators, m as u16 * all_rides);
+    }
+    let least = if alpha == 0 { 0 } else { beta.max(1) };
+    let (operator_levels, ride_levels) = index[(row - 1) * (n + m)..row * (n + m)].split_at(n);
+    (mark(operator_levels, least, operators), mark(ride_levels, beta, rides))
 }

@@ -92,7 +92,8 @@ pub fn build(
     })
 }
 
-/// Query: marks who is in cover (alpha, beta), and counts them.
+/// Query: marks who is in cover (alpha, beta), and counts them. A limit of 0 is no limit: alpha 0 marks every operator, and
+/// beta 0 every ride, also one that no operator is cleared for. A dispatch permit needs a beta from 1.
 pub fn query(head: Head, index: &[u16], alpha: u16, beta: u16, marks: &mut [u16]) -> Result<Counts, Refusal> {
     let counts = unsafe {
         exported::board_query(head, index.as_ptr(), index.len(), alpha, beta, marks.as_mut_ptr(), marks.len())
@@ -102,7 +103,7 @@ pub fn query(head: Head, index: &[u16], alpha: u16, beta: u16, marks: &mut [u16]
 }
 
 /// Peel: clears the marks of those that fall short, the lowest-numbered operator first, then rides, in at most `steps`
-/// steps.
+/// steps. Nobody falls short of a limit of 0, so that a dispatch permit needs a beta from 1.
 pub fn peel(
     head: Head,
     operators: &[u16],

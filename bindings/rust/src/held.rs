@@ -143,7 +143,8 @@ impl<'m> Board<'m> {
         in_range.then(|| self.parts.stamps[operator as usize * self.head.rides as usize + ride as usize])
     }
 
-    /// The levels of row alpha, operators first, then rides; `None` where the index has no such row.
+    /// The levels of row alpha, operators first, then rides; `None` where the index has no such row. There is no row 0: a
+    /// query with alpha 0 goes by row 1.
     pub fn row(&self, alpha: u16) -> Option<&[u16]> {
         let width = mark_places(self.head.operators, self.head.rides);
         let in_range = 1 <= alpha && alpha <= self.head.rides;
@@ -158,19 +159,21 @@ impl<'m> Board<'m> {
         (&parts.operators[..places], &parts.rides[..places], &parts.stamps[..places], &parts.index[..words])
     }
 
-    /// Query: writes the marks of cover (alpha, beta), and counts them.
+    /// Query: writes the marks of cover (alpha, beta), and counts them. A limit of 0 is no limit.
     pub fn query(&self, alpha: u16, beta: u16, marks: &mut [u16]) -> Result<Counts, Refusal> {
         query(self.head, self.parts.index, alpha, beta, marks)
     }
 
-    /// Cover (alpha, beta), with marks of its own.
+    /// Cover (alpha, beta), with marks of its own. A limit of 0 is no limit: alpha 0 takes in every operator, beta 0 every
+    /// ride, so that a dispatch permit needs a beta from 1.
     pub fn cover(&self, alpha: u16, beta: u16) -> Result<Cover, Refusal> {
         let mut marks = [0; MARK_PLACES];
         let counts = self.query(alpha, beta, &mut marks)?;
         Ok(Cover { head: self.head, counts, marks })
     }
 
-    /// Peel: clears the marks of those that fall short, in at most `steps` steps. It does not read the index.
+    /// Peel: clears the marks of those that fall short, in at most `steps` steps. Nobody falls short of a limit of 0. It
+    /// does not read the index.
     pub fn peel(&self, marks: &mut [u16], alpha: u16, beta: u16, steps: u16) -> Result<Peeled, Refusal> {
         peel(self.head, self.parts.operators, self.parts.rides, marks, alpha, beta, steps)
     }
@@ -207,7 +210,8 @@ impl Cover {
         operator < self.head.operators && self.marks[operator as usize] == 1
     }
 
-    /// Whether a ride is in it, and so may dispatch; a ride that the board doesn't have is not.
+    /// Whether a ride is in it; a ride that the board doesn't have is not. A ride in a cover with beta from 1 may dispatch.
+    /// With beta 0 every ride is in, which permits nothing.
     pub fn has_ride(&self, ride: u16) -> bool {
         ride < self.head.rides && self.marks[self.head.operators as usize + ride as usize] == 1
     }

@@ -3,16 +3,17 @@
 use core::fmt;
 
 macro_rules! refusals {
-    ($($number:literal $name:ident $text:literal)*) => {
+    ($($(#[$attribute:meta])* $number:literal $name:ident $text:literal)*) => {
         /// What a call answers where it refuses. The call has then left all lent memory as it was.
         #[derive(Clone, Copy, Debug, PartialEq, Eq, PartialOrd, Ord, Hash)]
         #[repr(u16)]
         pub enum Refusal {
-            $(#[doc = $text] $name = $number,)*
+            $(#[doc = $text] $(#[$attribute])* $name = $number,)*
         }
 
+        #[allow(deprecated)]
         impl Refusal {
-            /// Every refusal, in the order of the numbers.
+            /// Every refusal, in the order of the numbers, the retired one among them.
             pub const ALL: &'static [Refusal] = &[$(Refusal::$name),*];
 
             /// The refusal with a number, if there is one.
@@ -44,7 +45,8 @@ refusals! {
     8 OutOfRange "message: operator or ride out of range"
     9 StampZero "message or starting stamp is 0"
     10 NotLater "message not later than the pair's last"
-    11 LimitZero "α or β is 0"
+    #[deprecated = "never given since 1.2.0: a limit of 0 is no limit; check a permit's β before the call"]
+    11 LimitZero "retired: limits may be 0"
     12 MarkUnknown "peel: a mark in use is not 0 or 1"
     13 InputLengthWrong "program: input length wrong"
 }

@@ -35,7 +35,7 @@ fn the_board_goes_on() {
             assert_eq!(attached.message(one), board.message(one));
         }
         assert_eq!((attached.head(), attached.words()), (board.head(), board.words()));
-        for (alpha, beta) in (1..5).flat_map(|alpha| (1..6).map(move |beta| (alpha, beta))) {
+        for (alpha, beta) in (0..5).flat_map(|alpha| (0..6).map(move |beta| (alpha, beta))) {
             assert_eq!(attached.cover(alpha, beta), board.cover(alpha, beta));
         }
     }
@@ -81,6 +81,7 @@ fn zeros() {
 }
 
 /// A damaged index is taken up: covers are wrong, a peel from all ones is right, and the next taken message fills it anew.
+/// Whoever has the limit 0 is in whatever the index holds.
 #[test]
 fn a_damaged_index() {
     let (mut lent, head) = stored();
@@ -90,6 +91,9 @@ fn a_damaged_index() {
     let mut marks = [1; 7];
     assert_eq!(board.peel(&mut marks, 2, 2, u16::MAX), Ok(Peeled { settled: true, steps: 3 }));
     assert_eq!(marks, [1, 1, 0, 0, 1, 1, 0]);
+    assert_eq!(board.cover(0, 10).unwrap().counts(), Counts { operators: 4, rides: 0 });
+    assert_eq!(board.cover(3, 0).unwrap().counts(), Counts { operators: 4, rides: 3 });
+    assert_eq!(board.cover(4, 0).unwrap().counts(), Counts { operators: 0, rides: 3 });
     assert_eq!(board.message(Message::grant(0, 0, 6)), Ok(21));
     assert_eq!(board.cover(2, 2).unwrap().counts(), Counts { operators: 2, rides: 2 });
     assert!(board.words().3 == [3, 3, 3, 2, 2, 3, 2, 2, 2, 1, 0, 2, 2, 1, 0, 0, 0, 0, 0, 0, 0]);

@@ -34,8 +34,80 @@ fn covers() {
     assert!(!cover.has_operator(3) && !cover.has_operator(4) && !cover.has_ride(3));
     assert_eq!(board.cover(1, 4).unwrap().counts(), Counts { operators: 0, rides: 0 });
     assert_eq!(board.cover(4, 1).unwrap().counts(), Counts { operators: 0, rides: 0 });
-    assert_eq!(board.cover(0, 1), Err(Refusal::LimitZero));
-    assert_eq!(board.cover(1, 0), Err(Refusal::LimitZero));
+}
+
+/// The operators and the rides in cover (alpha, beta). A query and a peel from all ones mark the same.
+fn members(board: &Board, alpha: u16, beta: u16) -> (Vec<u16>, Vec<u16>) {
+    let head = board.head();
+    let nodes = head.operators + head.rides;
+    let (mut queried, mut peeled) = (vec![9; nodes as usize], vec![1; nodes as usize]);
+    let counts = board.query(alpha, beta, &mut queried).unwrap();
+    let steps = nodes - counts.operators - counts.rides;
+    assert_eq!(board.peel(&mut peeled, alpha, beta, nodes), Ok(Peeled { settled: true, steps }), "({alpha},{beta})");
+    assert_eq!(queried, peeled, "({alpha},{beta})");
+    let cover = board.cover(alpha, beta).unwrap();
+    assert_eq!(cover.counts(), counts);
+    (cover.operators().collect(), cover.rides().collect())
+}
+
+/// A limit of 0 is no limit.
+#[test]
+fn limits_of_zero() {
+    let mut memory = Memory::new();
+    let board = sample(&mut memory, 1);
+    let (operators, rides) = (vec![0, 1, 2, 3], vec![0, 1, 2]);
+    for beta in [0, 1, 2] {
+        assert_eq!(members(&board, 0, beta), (operators.clone(), rides.clone()));
+    }
+    assert_eq!(members(&board, 0, 3), (operators.clone(), vec![1]));
+    for beta in [4, u16::MAX] {
+        assert_eq!(members(&board, 0, beta), (operators.clone(), vec![]));
+    }
+    assert_eq!(members(&board, 1, 0), (operators, rides.clone()));
+    assert_eq!(members(&board, 2, 0), (vec![0, 1, 2], rides.clone()));
+    for alpha in [3, 4, 9, u16::MAX] {
+        assert_eq!(members(&board, alpha, 0), (vec![], rides.clone()));
+    }
+
+    // Unsettled under limits of 0, and a set that stands.
+    let mut marks = [1; 7];
+    assert_eq!(board.peel(&mut marks, 2, 0, 0), Ok(Peeled { settled: false, steps: 0 }));
+    assert_eq!(board.peel(&mut marks, 0, 3, 1), Ok(Peeled { settled: false, steps: 1 }));
+    assert_eq!(marks, [1, 1, 1, 1, 0, 1, 1]);
+    let mut marks = [0, 0, 0, 0, 1, 0, 1];
+    assert_eq!(board.peel(&mut marks, 1, 0, 9), Ok(Peeled { settled: true, steps: 0 }));
+    assert_eq!(marks, [0, 0, 0, 0, 1, 0, 1]);
+    marks[3] = 2;
+    assert_eq!(board.peel(&mut marks, 0, 0, 9), Err(Refusal::MarkUnknown));
+
+    // A ride that nobody is cleared for.
+    let board = Board::build(memory.parts(), 1, 2, &[(0, 0)], 1).unwrap();
+    assert_eq!(members(&board, 1, 0), (vec![0], vec![0, 1]));
+    for alpha in [0, 1] {
+        assert_eq!(members(&board, alpha, 1), (vec![0], vec![0]));
+    }
+}
+
+/// Limits of 0 on boards without rides, where the index has no row, without operators, and without either.
+#[test]
+fn limits_of_zero_on_empty_sides() {
+    let mut memory = Memory::new();
+    let board = Board::build(memory.parts(), 3, 0, &[], 1).unwrap();
+    for (alpha, beta) in [(0, 0), (0, 1), (0, 5)] {
+        assert_eq!(members(&board, alpha, beta), (vec![0, 1, 2], vec![]));
+    }
+    for (alpha, beta) in [(1, 0), (9, 0), (1, 1)] {
+        assert_eq!(members(&board, alpha, beta), (vec![], vec![]));
+    }
+    let board = Board::build(memory.parts(), 0, 3, &[], 1).unwrap();
+    for (alpha, beta) in [(0, 0), (1, 0), (3, 0), (4, 0)] {
+        assert_eq!(members(&board, alpha, beta), (vec![], vec![0, 1, 2]));
+    }
+    for (alpha, beta) in [(0, 1), (1, 1), (4, 1)] {
+        assert_eq!(members(&board, alpha, beta), (vec![], vec![]));
+    }
+    let board = Board::build(memory.parts(), 0, 0, &[], 1).unwrap();
+    assert_eq!(members(&board, 0, 0), (vec![], vec![]));
 }
 
 #[test]
@@ -133,9 +205,11 @@ fn lengths() {
         }
     }
     let mut marks = [9; 7];
-    assert_eq!(query(head, &[0; 20], 1, 1, &mut marks), Err(Refusal::PartShort));
-    assert_eq!(query(head, &[0; 21], 1, 1, &mut marks[..6]), Err(Refusal::PartShort));
-    assert_eq!(peel(head, &[0; 12], &[0; 12], &mut marks[..6], 1, 1, 1), Err(Refusal::PartShort));
+    for (alpha, beta) in [(1, 1), (0, 0), (0, 1), (4, 0)] {
+        assert_eq!(query(head, &[0; 20], alpha, beta, &mut marks), Err(Refusal::PartShort));
+        assert_eq!(query(head, &[0; 21], alpha, beta, &mut marks[..6]), Err(Refusal::PartShort));
+        assert_eq!(peel(head, &[0; 12], &[0; 12], &mut marks[..6], alpha, beta, 1), Err(Refusal::PartShort));
+    }
     assert_eq!(marks, [9; 7]);
 }
 

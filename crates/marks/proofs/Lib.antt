@@ -1,1 +1,3 @@
-pub mod Marks
+pub mod Sides
+pub mod Both
+pub mod Zeros

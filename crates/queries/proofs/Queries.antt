@@ -7,8 +7,7 @@ use Prim.Native.Nat.{ℕ, zero, suc, _+_, _-_, _*_, _≤_, _<_}
 use native.Mathlib.Omega.{arith}
 use native.Mathlib.Decide.{decLt}
 use lib.Dec.{leb}
-use lib.ListN.{length, getD, take, drop, replicate, length-take, length-replicate}
-use lib.Seq.{getD-take}
+use lib.ListN.{length, getD, take, drop, replicate}
 use Rattle.model.specs.declared.Head.{Head}
 use Rattle.model.specs.declared.Counts.{Counts}
 use Rattle.model.specs.Count.{bit, count}
@@ -136,11 +135,5 @@ module _ (h : Head) (index marks : List ℕ) (α : ℕ) (none : query-refusal h 
     row-levels x l = part-at index at (mark-places h) row-end x 0 l ∙ ap (λ (k : ℕ). getD index ((k - 1) * mark-places h + x) 0) number-is ∙ sym (level-there h index α (omega arith) x)
 
   -- zeros, where there is no such row
-  abbrev pub zeros : List ℕ
-  zeros = take (mark-places h - 0) (replicate 260 0)
-
-  pub zeros-wide : length zeros ≡ mark-places h
-  zeros-wide = simp (length-take, length-replicate) (omega (arith, query-long h index marks none))
-
-  pub zeros-levels : h .rides < row-for α → (x : ℕ) → x < mark-places h → getD zeros x 0 ≡ level-read h index α x
-  zeros-levels high x l = getD-take (mark-places h - 0) (replicate 260 0) x 0 (omega arith) ∙ getD-zeros 260 x ∙ sym (level-missing h index α high x)
+  pub zeros-levels : h .rides < row-for α → (x : ℕ) → x < mark-places h → getD (replicate (mark-places h) 0) x 0 ≡ level-read h index α x
+  zeros-levels high x l = getD-zeros (mark-places h) x ∙ sym (level-missing h index α high x)

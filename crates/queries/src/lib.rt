@@ -23,8 +23,13 @@ pub fn query(head: Head, index: &[u16], alpha: u16, beta: u16, marks: &mut [u16]
     let operator_least = members::least(alpha, beta);
     let ride_least = members::least(beta, beta);
     if head.rides < row {
-        let zeros = [0u16; 260];
-        return marks::mark_row(&zeros[0..w], n, operator_least, ride_least, marks);
+        return marks::mark_zeros(
+            head.operators,
+            head.rides,
+            operator_least,
+            ride_least,
+            marks,
+        );
     }
     let at = (row as usize - 1) * w;
     marks::mark_row(&index[at..at + w], n, operator_least, ride_least, marks)

@@ -1,16 +1,16 @@
 -- `marks::mark` meets its contract. Assumes nothing.
 use mathlib.Core.Path.{sym, ap}
 use native.Mathlib.Omega.{arith}
-use borrow.Author.Tests.{le-leb, lt-leb}
+use borrow.Author.Tests.{lt-ltb, le-ltb}
 use Rattle.model.specs.Count.{bit}
 use Rattle.marks.proofs.mark.Statement.{statement}
 use Rattle.marks.proofs.mark.Tie as tie
 
 returns : tie.Need-returns
-returns c = sym (ap bit (le-leb (c .before .args .least) (c .before .args .level) (c .if1 .taken)))
+returns c = sym (ap bit (lt-ltb (c .before .args .below) (c .before .args .level) (c .if1 .taken)))
 
 returns-2 : tie.Need-returns-2
-returns-2 c = sym (ap bit (lt-leb (c .before .args .least) (c .before .args .level) (omega arith)))
+returns-2 c = sym (ap bit (le-ltb (c .before .args .below) (c .before .args .level) (omega arith)))
 
 pub mark-spec : {M : Type 1} → statement M
 mark-spec = tie.close (tie.spec returns returns-2)

@@ -1,87 +1,29 @@
--- `marks::mark_row` meets its contract. Assumes nothing.
+-- `marks::mark_row` meets its contract: one loop where both sides have the same least level, else one for each. Assumes nothing.
 use borrow.Author.Needs.{needs}
 use native.Mathlib.Omega.{arith}
-use Rattle.marks.proofs.Marks.{row-marked}
+use Rattle.marks.proofs.Both.{same-least}
 use Rattle.marks.proofs.mark_row.Statement.{statement}
 use Rattle.marks.proofs.mark_row.Tie as tie
 
-sub-mark-levels : tie.Need-sub-mark-levels
-sub-mark-levels c = search needs
-
-part-mark-levels-start : tie.Need-part-mark-levels-start
-part-mark-levels-start c = search needs
-
-part-mark-levels-end : tie.Need-part-mark-levels-end
-part-mark-levels-end c = search needs
-
-sub-mark-levels-2 : tie.Need-sub-mark-levels-2
-sub-mark-levels-2 c = search needs
-
-part-mark-levels-start-2 : tie.Need-part-mark-levels-start-2
-part-mark-levels-start-2 c = search needs
-
-part-mark-levels-end-2 : tie.Need-part-mark-levels-end-2
-part-mark-levels-end-2 c = search needs
-
-mark-levels-requires : tie.Need-mark-levels-requires
-mark-levels-requires c κs = search needs
-
-mul-mark-levels : tie.Need-mul-mark-levels
-mul-mark-levels c = search needs
-
-sub-mark-levels-3 : tie.Need-sub-mark-levels-3
-sub-mark-levels-3 c = search needs
-
-part-mark-levels-start-3 : tie.Need-part-mark-levels-start-3
-part-mark-levels-start-3 c = search needs
-
-part-mark-levels-end-3 : tie.Need-part-mark-levels-end-3
-part-mark-levels-end-3 c = search needs
-
-mul-mark-levels-2 : tie.Need-mul-mark-levels-2
-mul-mark-levels-2 c = search needs
-
-sub-mark-levels-4 : tie.Need-sub-mark-levels-4
-sub-mark-levels-4 c = search needs
-
-part-mark-levels-start-4 : tie.Need-part-mark-levels-start-4
-part-mark-levels-start-4 c = search needs
-
-part-mark-levels-end-4 : tie.Need-part-mark-levels-end-4
-part-mark-levels-end-4 c = search needs
-
-mark-levels-requires-2 : tie.Need-mark-levels-requires-2
-mark-levels-requires-2 c κs = search needs
+mark-both-requires : tie.Need-mark-both-requires
+mark-both-requires c κs = search needs
 
 same-length : tie.Need-same-length
 same-length c = search needs
 
 returns : tie.Need-returns
-returns c = let s = c .before .before .before .before .before .before .before .before .before .before .before .before in
-    let a = s .args in
-    let v = c .before .before .before .before .before .before .before .mark-levels in
-    let w = c .before .before .mark-levels2 in
-    row-marked (a .row .now) (a .marks .now) (a .n) (a .operator-least) (a .ride-least) (s .pre .0) (s .pre .1) (v .result) (v .last .1 .1 .0) (v .ensures) (omega arith) (w .result) (w .last .1 .1 .0) (w .ensures) (omega arith)
+returns c = same-least (omega arith) (c .before .before .mark-both .ensures)
+
+mark-sides-requires : tie.Need-mark-sides-requires
+mark-sides-requires c κs = search needs
+
+same-length-2 : tie.Need-same-length-2
+same-length-2 c = search needs
+
+returns-2 : tie.Need-returns-2
+returns-2 c = search needs
 
 pub mark-row-spec : {M : Type 1} → statement M
 mark-row-spec =
     tie.close
-    (tie.spec
-    sub-mark-levels
-    part-mark-levels-start
-    part-mark-levels-end
-    sub-mark-levels-2
-    part-mark-levels-start-2
-    part-mark-levels-end-2
-    mark-levels-requires
-    mul-mark-levels
-    sub-mark-levels-3
-    part-mark-levels-start-3
-    part-mark-levels-end-3
-    mul-mark-levels-2
-    sub-mark-levels-4
-    part-mark-levels-start-4
-    part-mark-levels-end-4
-    mark-levels-requires-2
-    same-length
-    returns)
+    (tie.spec mark-both-requires same-length returns mark-sides-requires same-length-2 returns-2)

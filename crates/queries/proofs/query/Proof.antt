@@ -1,8 +1,11 @@
 -- `queries::query` meets its contract: it refuses, or the index has no such row and the levels are 0, or one row of the index is read. Assumes nothing.
 use borrow.Author.Needs.{needs}
 use mathlib.Core.Path.{_≡_, sym, _∙_}
+use Prim.Native.Nat.{ℕ}
 use native.Mathlib.Omega.{arith}
-use Rattle.queries.proofs.Queries.{query-refused, query-long, query-done, row-end, row-start, row-wide, row-levels, zeros-wide, zeros-levels}
+use lib.ListN.{length-replicate}
+use Rattle.model.specs.Layout.{mark-places}
+use Rattle.queries.proofs.Queries.{query-refused, query-long, query-done, row-end, row-start, row-wide, row-levels, zeros-levels}
 use Rattle.queries.proofs.query.Statement.{statement}
 use Rattle.queries.proofs.query.Tie as tie
 
@@ -33,29 +36,18 @@ least-requires c κs = search needs
 least-requires-2 : tie.Need-least-requires-2
 least-requires-2 c κs = search needs
 
-sub-mark-row : tie.Need-sub-mark-row
-sub-mark-row c = search needs
-
-part-mark-row-start : tie.Need-part-mark-row-start
-part-mark-row-start c = search needs
-
-part-mark-row-end : tie.Need-part-mark-row-end
-part-mark-row-end c = let a = c .before .before .before .before .before .before .before .before .before .before .before .before .before .args in
+mark-zeros-requires : tie.Need-mark-zeros-requires
+mark-zeros-requires c κs = let a = c .before .before .before .before .before .before .before .before .before .before .before .before .before .args in
     let none = sym (c .before .before .before .before .before .before .before .before .before .query-number .ensures) ∙ (let z : c .before .before .before .before .before .before .before .before .before .query-number .result ≡ 0 = omega arith in z) in
     omega (arith, query-long (a .head) (a .index .now) (a .marks .now) none)
-
-mark-row-requires : tie.Need-mark-row-requires
-mark-row-requires c κs = let a = c .before .before .before .before .before .before .before .before .before .before .before .before .before .before .before .args in
-    let none = sym (c .before .before .before .before .before .before .before .before .before .before .before .query-number .ensures) ∙ (let z : c .before .before .before .before .before .before .before .before .before .before .before .query-number .result ≡ 0 = omega arith in z) in
-    omega (arith, zeros-wide (a .head) (a .index .now) (a .marks .now) (a .alpha) none, query-long (a .head) (a .index .now) (a .marks .now) none)
 
 same-length-2 : tie.Need-same-length-2
 same-length-2 c = search needs
 
 returns-2 : tie.Need-returns-2
-returns-2 c = let a = c .before .before .before .before .before .before .before .before .before .before .before .before .before .before .before .before .before .before .args in
-    let none = sym (c .before .before .before .before .before .before .before .before .before .before .before .before .before .before .query-number .ensures) ∙ (let z : c .before .before .before .before .before .before .before .before .before .before .before .before .before .before .query-number .result ≡ 0 = omega arith in z) in
-    query-done (a .head) (a .index .now) (a .marks .now) (a .alpha) (a .beta) none _ (zeros-wide (a .head) (a .index .now) (a .marks .now) (a .alpha) none) (zeros-levels (a .head) (a .index .now) (a .marks .now) (a .alpha) none (omega (arith, c .before .before .before .before .before .before .before .before .before .before .row .ensures))) _ _ (c .before .before .before .before .before .before .before .before .before .least .ensures) (c .before .before .before .before .before .before .before .before .least2 .ensures) _ _ (c .before .before .mark-row .ensures) (omega arith)
+returns-2 c = let a = c .before .before .before .before .before .before .before .before .before .before .before .before .before .before .before .before .args in
+    let none = sym (c .before .before .before .before .before .before .before .before .before .before .before .before .query-number .ensures) ∙ (let z : c .before .before .before .before .before .before .before .before .before .before .before .before .query-number .result ≡ 0 = omega arith in z) in
+    query-done (a .head) (a .index .now) (a .marks .now) (a .alpha) (a .beta) none _ (length-replicate {A = ℕ} (mark-places (a .head)) 0) (zeros-levels (a .head) (a .index .now) (a .marks .now) (a .alpha) none (omega (arith, c .before .before .before .before .before .before .before .before .row .ensures))) _ _ (c .before .before .before .before .before .before .before .least .ensures) (c .before .before .before .before .before .before .least2 .ensures) _ _ (c .before .before .mark-zeros .ensures) (omega arith)
 
 cast-at : tie.Need-cast-at
 cast-at c = search needs
@@ -78,19 +70,19 @@ mul-mark-row c = let a = c .before .before .before .before .before .before .befo
     let none = sym (c .before .before .before .before .before .before .before .before .query-number .ensures) ∙ (let z : c .before .before .before .before .before .before .before .before .query-number .result ≡ 0 = omega arith in z) in
     omega (arith, row-start (a .head) (a .index .now) (a .marks .now) (a .alpha) none _ (c .before .before .before .before .row .ensures) (omega arith))
 
-sub-mark-row-2 : tie.Need-sub-mark-row-2
-sub-mark-row-2 c = search needs
+sub-mark-row : tie.Need-sub-mark-row
+sub-mark-row c = search needs
 
-part-mark-row-start-2 : tie.Need-part-mark-row-start-2
-part-mark-row-start-2 c = search needs
+part-mark-row-start : tie.Need-part-mark-row-start
+part-mark-row-start c = search needs
 
-part-mark-row-end-2 : tie.Need-part-mark-row-end-2
-part-mark-row-end-2 c = let a = c .before .before .before .before .before .before .before .before .before .before .before .before .args in
+part-mark-row-end : tie.Need-part-mark-row-end
+part-mark-row-end c = let a = c .before .before .before .before .before .before .before .before .before .before .before .before .args in
     let none = sym (c .before .before .before .before .before .before .before .before .query-number .ensures) ∙ (let z : c .before .before .before .before .before .before .before .before .query-number .result ≡ 0 = omega arith in z) in
     row-end (a .head) (a .index .now) (a .marks .now) (a .alpha) none _ (c .before .before .before .before .row .ensures) (omega arith)
 
-mark-row-requires-2 : tie.Need-mark-row-requires-2
-mark-row-requires-2 c κs = let a = c .before .before .before .before .before .before .before .before .before .before .before .before .before .before .args in
+mark-row-requires : tie.Need-mark-row-requires
+mark-row-requires c κs = let a = c .before .before .before .before .before .before .before .before .before .before .before .before .before .before .args in
     let none = sym (c .before .before .before .before .before .before .before .before .before .before .query-number .ensures) ∙ (let z : c .before .before .before .before .before .before .before .before .before .before .query-number .result ≡ 0 = omega arith in z) in
     omega (arith, row-wide (a .head) (a .index .now) (a .marks .now) (a .alpha) none _ (c .before .before .before .before .before .before .row .ensures) (omega arith), query-long (a .head) (a .index .now) (a .marks .now) none)
 
@@ -100,7 +92,7 @@ same-length-3 c = search needs
 returns-3 : tie.Need-returns-3
 returns-3 c = let a = c .before .before .before .before .before .before .before .before .before .before .before .before .before .before .before .before .before .args in
     let none = sym (c .before .before .before .before .before .before .before .before .before .before .before .before .before .query-number .ensures) ∙ (let z : c .before .before .before .before .before .before .before .before .before .before .before .before .before .query-number .result ≡ 0 = omega arith in z) in
-    query-done (a .head) (a .index .now) (a .marks .now) (a .alpha) (a .beta) none _ (row-wide (a .head) (a .index .now) (a .marks .now) (a .alpha) none _ (c .before .before .before .before .before .before .before .before .before .row .ensures) (omega arith)) (row-levels (a .head) (a .index .now) (a .marks .now) (a .alpha) none _ (c .before .before .before .before .before .before .before .before .before .row .ensures) (omega arith)) _ _ (c .before .before .before .before .before .before .before .before .least .ensures) (c .before .before .before .before .before .before .before .least2 .ensures) _ _ (c .before .before .mark-row2 .ensures) (omega arith)
+    query-done (a .head) (a .index .now) (a .marks .now) (a .alpha) (a .beta) none _ (row-wide (a .head) (a .index .now) (a .marks .now) (a .alpha) none _ (c .before .before .before .before .before .before .before .before .before .row .ensures) (omega arith)) (row-levels (a .head) (a .index .now) (a .marks .now) (a .alpha) none _ (c .before .before .before .before .before .before .before .before .before .row .ensures) (omega arith)) _ _ (c .before .before .before .before .before .before .before .before .least .ensures) (c .before .before .before .before .before .before .before .least2 .ensures) _ _ (c .before .before .mark-row .ensures) (omega arith)
 
 pub query-spec : {M : Type 1} → statement M
 query-spec =
@@ -115,10 +107,7 @@ query-spec =
     row-requires
     least-requires
     least-requires-2
-    sub-mark-row
-    part-mark-row-start
-    part-mark-row-end
-    mark-row-requires
+    mark-zeros-requires
     same-length-2
     returns-2
     cast-at
@@ -126,9 +115,9 @@ query-spec =
     mul-at
     add-mark-row
     mul-mark-row
-    sub-mark-row-2
-    part-mark-row-start-2
-    part-mark-row-end-2
-    mark-row-requires-2
+    sub-mark-row
+    part-mark-row-start
+    part-mark-row-end
+    mark-row-requires
     same-length-3
     returns-3)

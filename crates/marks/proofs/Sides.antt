@@ -1,5 +1,5 @@
--- The marks and counts of one row: the operators are marked and counted, then the rides. Assumes nothing.
-use mathlib.Core.Path.{_≡_, refl, sym, ap, _∙_}
+-- The marks and counts of one row, where each side has a least level of its own: the operators are marked and counted, then the rides. Assumes nothing.
+use mathlib.Core.Path.{_≡_, refl, ap, _∙_, sym}
 use mathlib.Core.List.{List, _++_}
 use Prim.Native.Nat.{ℕ, _+_, _-_, _≤_, _<_}
 use native.Mathlib.Nat.{zero-add}
@@ -30,8 +30,7 @@ module _ (row : List ℕ) (first k least r : ℕ) (words : List ℕ) (inside : f
       ap (λ (n : ℕ). count n (λ (i : ℕ). leb least (getD (take k (drop first row)) i 0))) long ∙
       count-ext (λ (i : ℕ). leb least (getD (take k (drop first row)) i 0)) (λ (i : ℕ). leb least (getD row (first + i) 0)) k level
 
--- ---- one row
-
+-- one row
 module _ (row marks : List ℕ) (n operator ride : ℕ) (h : n ≤ length row) (l : length row ≤ length marks) (o : ℕ) (words : List ℕ) (m : Marked (take (n - 0) (drop 0 row)) operator o words) (same : length words ≡ length (take (n - 0) (drop 0 marks))) where
   abbrev w : ℕ
   w = length row
@@ -58,8 +57,8 @@ module _ (row marks : List ℕ) (n operator ride : ℕ) (h : n ≤ length row) (
     long′ : length words′ ≡ w - n
     long′ = same′ ∙ simp (length-take, length-drop) (omega (arith, done-long))
 
-    pub row-marked : RowMarked row n operator ride marks (record { code = 0; operators = o; rides = r }) (take n done ++ (words′ ++ drop (w - n) (drop n done)))
-    row-marked =
+    pub sides-marked : RowMarked row n operator ride marks (record { code = 0; operators = o; rides = r }) (take n done ++ (words′ ++ drop (w - n) (drop n done)))
+    sides-marked =
         let rest : List ℕ = drop (w - n) (drop n done) in
         let inside : n ≤ length done = omega (arith, done-long) in
         record {

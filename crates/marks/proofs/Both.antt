@@ -1,0 +1,79 @@
+-- The marks and counts of one row, where both sides have the same least level: all are marked and counted together, the rides in their marks once more. Assumes nothing.
+use mathlib.Core.Path.{_≡_, refl, sym, ap, _∙_, subst}
+use mathlib.Core.List.{List, _++_}
+use Prim.Native.Nat.{ℕ, zero, suc, _+_, _-_, _≤_, _<_}
+use native.Mathlib.Omega.{arith}
+use lib.Dec.{leb, eqb}
+use lib.ListN.{length, getD, take, drop, length-take, length-drop, length-append, List·getD-append}
+use lib.Seq.{getD-take, getD-drop, drop-at}
+use Rattle.model.specs.declared.Counts.{Counts}
+use Rattle.model.specs.Count.{bit, count}
+use Rattle.model.specs.Graph.{marked}
+use Rattle.model.proofs.Count.{bit-le, bit-test, count-append, count-ext}
+use Rattle.marks.specs.Marks.{Marked, RowMarked}
+
+-- a mark that is 0 or 1 counts itself
+pub bit-of : (z : ℕ) → z ≤ 1 → bit (eqb z 1) ≡ z
+bit-of zero l = refl
+bit-of (suc zero) l = refl
+bit-of (suc (suc z)) l = absurd (let k : ⊥ = omega arith in k)
+
+module _ (row marks : List ℕ) (n least : ℕ) (h : n ≤ length row) (l : length row ≤ length marks) (all : ℕ) (words : List ℕ) (m : Marked row least all words) (same : length words ≡ length (take (length row - 0) marks)) where
+  abbrev w : ℕ
+  w = length row
+
+  abbrev done : List ℕ
+  done = words ++ drop (w - 0) marks
+
+  -- the marks of the rides
+  abbrev part : List ℕ
+  part = take (w - n) (drop n done)
+
+  words-long : length words ≡ w
+  words-long = same ∙ simp length-take (omega arith)
+
+  done-at : (i : ℕ) → i < w → getD done i 0 ≡ bit (leb least (getD row i 0))
+  done-at i k = List·getD-append words (drop (w - 0) marks) 0 i (omega (arith, words-long)) ∙ m .marks-are i k
+
+  pub part-long : length part ≡ w - n
+  part-long = simp (length-take, length-drop, length-append) (omega (arith, words-long))
+
+  part-at-ride : (i : ℕ) → i < w - n → getD part i 0 ≡ bit (leb least (getD row (n + i) 0))
+  part-at-ride i k = getD-take (w - n) (drop n done) i 0 k ∙ getD-drop n done i 0 ∙ done-at (n + i) (omega arith)
+
+  pub part-bits : (i : ℕ) → i < length part → getD part i 0 ≤ 1
+  part-bits i k =
+      let l : i < w - n = omega (arith, part-long) in
+      omega (arith, part-at-ride i l, bit-le (leb least (getD row (n + i) 0)))
+
+  module _ (r : ℕ) (counted : r ≡ count (length part) (marked part)) where
+    rides-are : r ≡ count (w - n) (λ i. leb least (getD row (n + i) 0))
+    rides-are =
+        counted ∙
+        ap (λ (k : ℕ). count k (marked part)) part-long ∙
+        count-ext (marked part) (λ (i : ℕ). leb least (getD row (n + i) 0)) (w - n) (λ i k. ap (λ (z : ℕ). eqb z 1) (part-at-ride i k) ∙ bit-test (leb least (getD row (n + i) 0)))
+
+    all-is : all ≡ count n (λ i. leb least (getD row i 0)) + r
+    all-is =
+        m .counted ∙
+        ap (λ (k : ℕ). count k (λ (i : ℕ). leb least (getD row i 0))) (let e : w ≡ n + (w - n) = omega arith in e) ∙
+        count-append (λ (i : ℕ). leb least (getD row i 0)) n (w - n) ∙
+        ap (λ (k : ℕ). count n (λ (i : ℕ). leb least (getD row i 0)) + k) (sym rides-are)
+
+    pub rides-le : r ≤ all
+    rides-le = omega (arith, all-is)
+
+    pub both-marked : RowMarked row n least least marks (record { code = 0; operators = all - r; rides = r }) done
+    both-marked =
+        record {
+          code = refl;
+          operators = omega (arith, all-is);
+          rides = rides-are;
+          operator-marks = λ i k. done-at i (omega arith);
+          ride-marks = λ i k. done-at (n + i) (omega arith);
+          tail = drop-at words (drop (w - 0) marks) w words-long ∙ ap (λ (k : ℕ). drop k marks) (let e : w - 0 ≡ w = omega arith in e);
+        }
+
+-- the least level of an operator, where it is that of a ride
+pub same-least : {row marks marks′ : List ℕ} {n a b : ℕ} {r : Counts} → b ≡ a → RowMarked row n b b marks r marks′ → RowMarked row n a b marks r marks′
+same-least {row} {marks} {marks′} {n} {a} {b} {r} e m = subst (λ (least : ℕ). RowMarked row n least b marks r marks′) e m
