@@ -14,4 +14,5 @@ pub mod Refusal
 pub mod Contents
 pub mod Taken
 pub mod EndToEnd
+pub mod Eleven
 pub mod Samples

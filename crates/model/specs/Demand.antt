@@ -7,11 +7,13 @@ use Prim.Native.Nat.{ℕ, _+_, _-_, _*_, _≤_, _<_, max}
 use lib.Dec.{T, leb}
 use lib.ListN.{length, getD, set, drop}
 use Rattle.model.specs.declared.Head.{Head}
+use Rattle.model.specs.declared.Message.{Message}
 use Rattle.model.specs.Count.{count, some}
 use Rattle.model.specs.Graph.{Graph, nodes, degree, everybody, Inside, Largest, limits, Core, marked, short, settled, removals, peel, cover, level, row-for, in-by-level, index-of}
 use Rattle.model.specs.Layout.{Index, Board, mark-places, sized, graph, board-graph}
 use Rattle.model.specs.Refusal.{build-refusal, peel-refusal}
 use Rattle.model.specs.Calls.{QueryOutcome, PeelOutcome, query-marks, board-build, board-query, board-peel}
+use Rattle.model.specs.Message.{board-message, board-messages}
 
 -- how many nodes are marked
 abbrev pub members : Graph → List ℕ → ℕ
@@ -95,6 +97,14 @@ pub record ZeroIsNoLimit (h : Head) (index : List ℕ) : Type 0 where
   -- limits from 1 are document 01's: the row α level is at least β, and α above rides marks nobody
   pub from-one : (α β x : ℕ) → 1 ≤ α → 1 ≤ β → x < mark-places h →
       marked (query-marks h index α β) x ≡ (leb α (h .rides) && leb β (getD index ((α - 1) * mark-places h + x) 0))
+
+-- Document 02, 2.1: no call gives 11
+pub record NeverEleven : Type 0 where
+  pub build : (b : Board) (start : ℕ) → board-build b start .code ≢ 11
+  pub query : (h : Head) (index : List ℕ) (α β : ℕ) (marks : List ℕ) → board-query h index α β marks .answer .code ≢ 11
+  pub peel : (h : Head) (operators rides marks : List ℕ) (α β allowed : ℕ) → board-peel h operators rides marks α β allowed .answer .code ≢ 11
+  pub message : (b : Board) (m : Message) → board-message b m .answer .code ≢ 11
+  pub messages : (b : Board) (ms : List Message) (answers : List ℕ) → board-messages b ms answers .code ≢ 11
 
 -- Demand 2 for queries: on the index of any clearances of the head's sizes the marks are the (α, β)-core, for every α and β from 0
 abbrev pub QueryIsCore : Type 0

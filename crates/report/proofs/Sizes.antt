@@ -11,10 +11,11 @@ use Rattle.model.specs.declared.Head.{Head}
 use Rattle.model.specs.Refusal.{first-number}
 use Rattle.model.proofs.Count.{test-false}
 use Rattle.model.proofs.Chain.{first-none, enough}
+use Rattle.model.proofs.Eleven.{first-lacks}
 use Rattle.pairs.proofs.Place.{product-small}
 use Rattle.input.specs.Input.{head, size-cases}
 use Rattle.text.specs.Text.{refusal-line}
-use Rattle.report.specs.Program.{cover-refusal, cover-text}
+use Rattle.report.specs.Program.{cover-refusal, cover-text, NeverEleven}
 use Rattle.report.specs.Sizes.{Sizes, input-text}
 
 -- ---- the first number of a list of checks
@@ -76,3 +77,8 @@ module _ (input : List ℕ) where
   pub text-checked : first-number (size-cases (length input) (head input)) ≡ 0 → input-text input (head input) ≡ cover-text input
   unfolding cover-text cover-refusal
   text-checked e = rw (size-miss (length input) (head input) _ e)
+
+-- 11 is in neither list of checks
+pub never-eleven : NeverEleven
+unfolding cover-refusal
+never-eleven input = first-lacks 11 (λ e. omega arith) _ tt

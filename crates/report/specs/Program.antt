@@ -1,5 +1,6 @@
 -- Document 01, The program `cover`, and document 02, 2.1: a function from the bytes of its input to the bytes of its output.
 use mathlib.Core.Path.{_≡_}
+use mathlib.Core.Logic.{_≢_}
 use mathlib.Core.Bool.{Bool}
 use mathlib.Core.List.{List, [], _∷_, _++_}
 use Prim.Native.Nat.{ℕ, zero, suc, _≤_}
@@ -46,6 +47,10 @@ pub record Reported (input old new : List ℕ) (r : ℕ) : Type 0 where
   pub size : r ≡ length (cover-text input)
   pub text : new ≡ over (cover-text input) old
   pub fits : r ≤ length new
+
+-- Document 02, 2.1: `cover` never prints 11
+abbrev pub NeverEleven : Type 0
+NeverEleven = (input : List ℕ) → cover-refusal input ≢ 11
 
 -- no byte after the first 48,011 changes the output: the longest board has 48,010 bytes
 abbrev pub EnoughRead : Type 0
