@@ -1,7 +1,7 @@
 -- The marks and counts of one row, where both sides have the same least level: all are marked and counted together, the rides in their marks once more. Assumes nothing.
 use mathlib.Core.Path.{_≡_, refl, sym, ap, _∙_, subst}
 use mathlib.Core.List.{List, _++_}
-use Prim.Native.Nat.{ℕ, zero, suc, _+_, _-_, _≤_, _<_}
+use Prim.Native.Nat.{ℕ, _+_, _-_, _≤_, _<_}
 use native.Mathlib.Omega.{arith}
 use lib.Dec.{leb, eqb}
 use lib.ListN.{length, getD, take, drop, length-take, length-drop, length-append, List·getD-append}
@@ -10,13 +10,8 @@ use Rattle.model.specs.declared.Counts.{Counts}
 use Rattle.model.specs.Count.{bit, count}
 use Rattle.model.specs.Graph.{marked}
 use Rattle.model.proofs.Count.{bit-le, bit-test, count-append, count-ext}
-use Rattle.marks.specs.Marks.{Marked, RowMarked}
-
--- a mark that is 0 or 1 counts itself
-pub bit-of : (z : ℕ) → z ≤ 1 → bit (eqb z 1) ≡ z
-bit-of zero l = refl
-bit-of (suc zero) l = refl
-bit-of (suc (suc z)) l = absurd (let k : ⊥ = omega arith in k)
+use Rattle.sides.specs.Marked.{Marked}
+use Rattle.marks.specs.Marks.{RowMarked}
 
 module _ (row marks : List ℕ) (n least : ℕ) (h : n ≤ length row) (l : length row ≤ length marks) (all : ℕ) (words : List ℕ) (m : Marked row least all words) (same : length words ≡ length (take (length row - 0) marks)) where
   abbrev w : ℕ

@@ -11,7 +11,8 @@ use borrow.Rule.Slice.PartMut.{drop-put}
 use Rattle.model.specs.Count.{bit, count}
 use Rattle.model.proofs.Count.{count-ext}
 use Rattle.model.proofs.Store.{put-before, put-at, front-at}
-use Rattle.marks.specs.Marks.{Marked, RowMarked}
+use Rattle.sides.specs.Marked.{Marked}
+use Rattle.marks.specs.Marks.{RowMarked}
 
 -- the marks of a part of a row, from `first` on, by the row's own levels
 module _ (row : List ℕ) (first k least r : ℕ) (words : List ℕ) (inside : first + k ≤ length row) (m : Marked (take k (drop first row)) least r words) where

@@ -1,11 +1,10 @@
--- The marks and counts of a row of zeros, and of all nodes for level 0. Assumes nothing.
+-- The marks and counts of a row of zeros. Assumes nothing.
 use mathlib.Core.Path.{_≡_, refl, sym, ap, _∙_, subst}
 use mathlib.Core.Bool.{Bool, true, false}
 use mathlib.Core.List.{List}
 use Prim.Native.Nat.{ℕ, _+_, _-_, _*_, _≤_, _<_}
 use native.Mathlib.Omega.{arith}
 use lib.Dec.{T, leb}
-use borrow.Author.Tests.{le-leb}
 use lib.ListN.{length, getD, drop, replicate, length-replicate}
 use lib.Seq.{drop-drop}
 use Rattle.model.specs.Count.{bit, count}
@@ -13,7 +12,7 @@ use Rattle.model.proofs.Count.{count-all, count-zero}
 use Rattle.model.proofs.Store.{getD-zeros}
 use Rattle.words.specs.Filled.{filled}
 use Rattle.words.proofs.Filled.{filled-before, filled-at, filled-rest, length-filled}
-use Rattle.marks.specs.Marks.{Marked, RowMarked}
+use Rattle.marks.specs.Marks.{RowMarked}
 
 -- of numbers that all pass the test or none does, all or none are counted
 count-same : (p : ℕ → Bool) (k : ℕ) (b : Bool) → ((y : ℕ) → y < k → p y ≡ b) → k * bit b ≡ count k p
@@ -67,13 +66,3 @@ marks-few k o least e = rw e (omega (arith, times (leb least 0)))
     times : (b : Bool) → k * bit b ≤ k
     times true = omega arith
     times false = omega arith
-
--- ---- all nodes, for level 0
-
-pub all-marked : (levels marks words : List ℕ) (least : ℕ) → length marks ≡ length levels → least ≡ 0 → words ≡ filled 0 (length marks) 1 marks → Marked levels least (length marks) words
-all-marked levels marks words least same e w =
-    rw (w, e)
-    (record {
-      marks-are = λ i k. filled-at marks 0 1 (length marks) (omega arith) (omega arith) i (omega arith) (omega arith) ∙ sym (ap bit (le-leb 0 (getD levels i 0) (omega arith)));
-      counted = same ∙ sym (count-all (λ (i : ℕ). leb 0 (getD levels i 0)) (length levels) (λ i k. subst T (sym (le-leb 0 (getD levels i 0) (omega arith))) tt));
-    })

@@ -7,11 +7,6 @@ use lib.ListN.{length, getD, drop}
 use Rattle.model.specs.declared.Counts.{Counts}
 use Rattle.model.specs.Count.{bit, count}
 
--- marks of levels: 1 exactly if the level is at least the given one, and how many are 1
-pub record Marked (levels : List ℕ) (least r : ℕ) (marks : List ℕ) : Type 0 where
-  pub marks-are : (i : ℕ) → i < length levels → getD marks i 0 ≡ bit (leb least (getD levels i 0))
-  pub counted : r ≡ count (length levels) (λ i. leb least (getD levels i 0))
-
 -- marks and counts of one row of n operators and the rides, with the least level of an operator and of a ride; marks past the row are as they came
 pub record RowMarked (row : List ℕ) (n operator ride : ℕ) (marks : List ℕ) (r : Counts) (marks′ : List ℕ) : Type 0 where
   pub code : r .code ≡ 0

@@ -1,66 +1,11 @@
 // The marks and counts of one row of the index, or of a row of zeros.
 ghost use mathlib.Core.Path.{_≡_};
-ghost use Prim.Native.Nat.{ℕ, _+_, _<_, _≤_};
-ghost use lib.Dec.{ltb, leb};
-ghost use lib.ListN.{length, getD, replicate};
-ghost use Rattle.model.specs.Count.{bit, count};
-ghost use Rattle.model.specs.Graph.{marked};
-ghost use Rattle.marks.specs.Marks.{Marked, RowMarked};
+ghost use Prim.Native.Nat.{_+_, _≤_};
+ghost use lib.Dec.{leb};
+ghost use lib.ListN.{length, replicate};
+ghost use Rattle.model.specs.Count.{bit};
+ghost use Rattle.marks.specs.Marks.{RowMarked};
 use model::Counts;
-
-// 1 where a level is above another.
-fn mark(level: u16, below: u16) -> u16
-    ensures { λ r. ⌜ r ≡ bit (ltb below level) ⌝ }
-{
-    if below < level { 1 } else { 0 }
-}
-
-// Marks the nodes with at least a level from 1, and counts them.
-fn mark_from(levels: &[u16], least: u16, marks: &mut [u16]) -> u16
-    requires { ⌜ (1 ≤ least) × (length (now marks) ≡ length (now levels)) × (length (now levels) ≤ 260) ⌝ }
-    ensures { λ r. ⌜ Marked (now (levels .entry)) least r (now (marks .exit)) ⌝ }
-{
-    let n = marks.len();
-    let below = least - 1;
-    let mut count = 0;
-    let mut i = 0;
-    while i < n {
-        let m = mark(levels[i], below);
-        marks[i] = m;
-        count += m;
-        i += 1;
-    }
-    count
-}
-
-// Marks the nodes with at least a level, and counts them: all of them for level 0.
-fn mark_levels(levels: &[u16], least: u16, marks: &mut [u16]) -> u16
-    requires { ⌜ (length (now marks) ≡ length (now levels)) × (length (now levels) ≤ 260) ⌝ }
-    ensures { λ r. ⌜ Marked (now (levels .entry)) least r (now (marks .exit)) ⌝ }
-{
-    let n = marks.len();
-    if least == 0 {
-        words::fill(marks, 0, n, 1);
-        return n as u16;
-    }
-    mark_from(levels, least, marks)
-}
-
-// How many marks are 1, where all are 0 or 1.
-fn count_marks(marks: &[u16]) -> u16
-    requires { ⌜ length (now marks) ≤ 260 ⌝ }
-    requires { ⌜ ((i : ℕ) → i < length (now marks) → getD (now marks) i 0 ≤ 1) ⌝ }
-    ensures { λ r. ⌜ r ≡ count (length (now (marks .entry))) (marked (now (marks .entry))) ⌝ }
-{
-    let n = marks.len();
-    let mut count = 0;
-    let mut i = 0;
-    while i < n {
-        count += marks[i];
-        i += 1;
-    }
-    count
-}
 
 // Marks the nodes of one row, operators and rides with at least the same level: one loop marks them all.
 fn mark_both(row: &[u16], n: usize, least: u16, marks: &mut [u16]) -> Counts
@@ -68,8 +13,8 @@ fn mark_both(row: &[u16], n: usize, least: u16, marks: &mut [u16]) -> Counts
     ensures { λ r. ⌜ RowMarked (now (row .entry)) n least least (now (marks .entry)) r (now (marks .exit)) ⌝ }
 {
     let w = row.len();
-    let all = mark_levels(row, least, &mut marks[0..w]);
-    let rides = count_marks(&marks[n..w]);
+    let all = sides::mark_levels(row, least, &mut marks[0..w]);
+    let rides = sides::count_marks(&marks[n..w]);
     Counts {
         code: 0,
         operators: all - rides,
@@ -89,8 +34,8 @@ fn mark_sides(
     ensures { λ r. ⌜ RowMarked (now (row .entry)) n «operator_least» «ride_least» (now (marks .entry)) r (now (marks .exit)) ⌝ }
 {
     let w = row.len();
-    let operators = mark_levels(&row[0..n], operator_least, &mut marks[0..n]);
-    let rides = mark_levels(&row[n..w], ride_least, &mut marks[n..w]);
+    let operators = sides::mark_levels(&row[0..n], operator_least, &mut marks[0..n]);
+    let rides = sides::mark_levels(&row[n..w], ride_least, &mut marks[n..w]);
     Counts {
         code: 0,
         operators,

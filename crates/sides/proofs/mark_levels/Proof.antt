@@ -1,9 +1,9 @@
--- `marks::mark_levels` meets its contract: everybody has level 0, and the others are marked by their levels. Assumes nothing.
+-- `sides::mark_levels` meets its contract: everybody has level 0, and the others are marked by their levels. Assumes nothing.
 use borrow.Author.Needs.{needs}
 use native.Mathlib.Omega.{arith}
-use Rattle.marks.proofs.Zeros.{all-marked}
-use Rattle.marks.proofs.mark_levels.Statement.{statement}
-use Rattle.marks.proofs.mark_levels.Tie as tie
+use Rattle.sides.proofs.Marked.{all-marked}
+use Rattle.sides.proofs.mark_levels.Statement.{statement}
+use Rattle.sides.proofs.mark_levels.Tie as tie
 
 fill-requires : tie.Need-fill-requires
 fill-requires c κs = search needs

@@ -1,4 +1,4 @@
--- `marks::count_marks` meets its contract. The loop's invariant: the count is how many of the marks below i are 1. Assumes nothing.
+-- `sides::count_marks` meets its contract. The loop's invariant: the count is how many of the marks below i are 1. Assumes nothing.
 use borrow.Author.Needs.{needs}
 use Prim.Native.Nat.{ℕ, _≤_, _-_}
 use mathlib.Core.Path.{_≡_, refl, sym, ap, _∙_}
@@ -7,9 +7,9 @@ use lib.ListN.{length, getD}
 use Rattle.model.specs.Graph.{marked}
 use Rattle.model.specs.Count.{count}
 use Rattle.model.proofs.Count.{count-le, count-more, count-none}
-use Rattle.marks.proofs.Both.{bit-of}
-use Rattle.marks.proofs.count_marks.Statement.{statement}
-use Rattle.marks.proofs.count_marks.Tie as tie
+use Rattle.sides.proofs.Marked.{bit-of}
+use Rattle.sides.proofs.count_marks.Statement.{statement}
+use Rattle.sides.proofs.count_marks.Tie as tie
 
 abbrev Inv-loop : tie.InvT-loop
 Inv-loop marks n count₀ i₀ count i =

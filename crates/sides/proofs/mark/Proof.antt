@@ -1,10 +1,10 @@
--- `marks::mark` meets its contract. Assumes nothing.
+-- `sides::mark` meets its contract. Assumes nothing.
 use mathlib.Core.Path.{sym, ap}
 use native.Mathlib.Omega.{arith}
 use borrow.Author.Tests.{lt-ltb, le-ltb}
 use Rattle.model.specs.Count.{bit}
-use Rattle.marks.proofs.mark.Statement.{statement}
-use Rattle.marks.proofs.mark.Tie as tie
+use Rattle.sides.proofs.mark.Statement.{statement}
+use Rattle.sides.proofs.mark.Tie as tie
 
 returns : tie.Need-returns
 returns c = sym (ap bit (lt-ltb (c .before .args .below) (c .before .args .level) (c .if1 .taken)))
