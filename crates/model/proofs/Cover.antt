@@ -1,5 +1,5 @@
 -- Cover (α, β) is the (α, β)-core of Definition 2.1, and covers nest. Assumes nothing.
-use mathlib.Core.Path.{_≡_}
+use mathlib.Core.Path.{_≡_, sym, subst}
 use mathlib.Core.Bool.{Bool, _&&_}
 use mathlib.Core.List.{List}
 use Prim.Native.Nat.{ℕ, _+_, _-_, _≤_, _<_}
@@ -21,6 +21,11 @@ module _ (n α β x : ℕ) where
   pub limits-ride : n ≤ x → limits n α β x ≡ β
   unfolding limits
   limits-ride h = rw (le-ltb x n h, limits)
+
+  -- what holds of both limits holds of a node's
+  pub limits-either : (P : ℕ → Type 0) → P α → P β → P (limits n α β x)
+  limits-either P a b =
+      elim (decLt x n) [ yes h ↦ subst P (sym (limits-operator h)) a | no h ↦ subst P (sym (limits-ride (omega arith))) b ]
 
 module _ (g : Graph) (α α′ β β′ : ℕ) (a : α ≤ α′) (b : β ≤ β′) where
   limits-mono : (x : ℕ) → limits (g .operators) α β x ≤ limits (g .operators) α′ β′ x

@@ -1,8 +1,8 @@
 -- Demand 2 for queries: on the index of any clearances of the head's sizes a query's marks are the (α, β)-core of Definition 2.1. Assumes nothing.
-use mathlib.Core.Path.{_≡_, sym, _∙_, ap, subst}
-use mathlib.Core.Bool.{Bool, true, false, _&&_, _||_}
+use mathlib.Core.Path.{_≡_, refl, sym, _∙_, ap, subst}
+use mathlib.Core.Bool.{Bool, false, _&&_, _||_}
 use mathlib.Core.List.{List}
-use Prim.Native.Nat.{ℕ, suc, _+_, _-_, _*_, _≤_, _<_, max}
+use Prim.Native.Nat.{ℕ, _+_, _-_, _*_, _≤_, _<_, max}
 use native.Mathlib.Omega.{arith}
 use native.Mathlib.Decide.{decLe}
 use lib.Dec.{T, leb, eqb}
@@ -16,7 +16,7 @@ use Rattle.model.specs.Calls.{level-read, query-marks}
 use Rattle.model.specs.Demand.{ZeroIsNoLimit, QueryIsCore}
 use Rattle.model.proofs.Count.{test-true, bit-test, getD-values}
 use Rattle.model.proofs.Peel.{degree-mono}
-use Rattle.model.proofs.Cover.{limits-operator, limits-ride, cover-core}
+use Rattle.model.proofs.Cover.{limits-operator, limits-ride, limits-either, cover-core}
 use Rattle.model.proofs.Level.{level-high, level-place, level-from-zero}
 
 -- a set that agrees with the core on the nodes is the core
@@ -107,15 +107,6 @@ ride-in h index β v l =
       | no b ↦ test-true (marked (query-marks h index 0 β) x) (unlimited h index 0 β x (omega arith) (omega (arith, e))) ∙ sym (le-leb β (getD index x 0) (omega arith))
     ]
 
--- limits at a node lie between those of the two sides
-limits-both : (n α β x k : ℕ) → α ≤ k → β ≤ k → limits n α β x ≤ k
-limits-both n α β x k a b =
-    elim (decLe n x) [ yes l ↦ omega (arith, limits-ride n α β x l) | no l ↦ omega (arith, limits-operator n α β x (omega arith)) ]
-
-limits-each : (n α β x k : ℕ) → k ≤ α → k ≤ β → k ≤ limits n α β x
-limits-each n α β x k a b =
-    elim (decLe n x) [ yes l ↦ omega (arith, limits-ride n α β x l) | no l ↦ omega (arith, limits-operator n α β x (omega arith)) ]
-
 pub zero-is-no-limit : (h : Head) (index : List ℕ) → ZeroIsNoLimit h index
 zero-is-no-limit h index =
     let n : ℕ = h .operators in
@@ -125,6 +116,6 @@ zero-is-no-limit h index =
       all-rides = λ α v l. unlimited h index α 0 (n + v) (omega arith) (limits-ride n α 0 (n + v) (omega arith));
       operators-by-row = λ α u a r l. in-row h index α 0 u (omega arith) (omega (arith, limits-operator n α 0 u l)) a r;
       rides-alone = λ α u r l. no-row h index α 0 u (omega arith) (omega (arith, limits-operator n α 0 u l)) r;
-      everyone = λ x l. unlimited h index 0 0 x l (omega (arith, limits-both n 0 0 x 0 (omega arith) (omega arith)));
-      from-one = λ α β x a b l. from-one h index α β x l (limits-each n α β x 1 a b) a b;
+      everyone = λ x l. unlimited h index 0 0 x l (limits-either n 0 0 x (λ (k : ℕ). k ≡ 0) refl refl);
+      from-one = λ α β x a b l. from-one h index α β x l (limits-either n α β x (λ (k : ℕ). 1 ≤ k) a b) a b;
     }
