@@ -1,4 +1,4 @@
--- Document 01, What the controller is told: one test for each of the numbers 1 to 12, and the numbers that each call checks.
+-- Document 01, What the controller is told: one test for each of the numbers 1 to 10 and 12, and the numbers that each call checks.
 -- Document 02, 2.1: 11 is never given.
 use mathlib.Core.Bool.{Bool, true, false, _&&_, _||_, not}
 use mathlib.Core.List.{List, [], _∷_, _++_}
