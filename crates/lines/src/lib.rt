@@ -9,7 +9,7 @@ ghost use Rattle.text.specs.Write.{Wrote};
 ghost use Rattle.model.specs.Graph.{limits, in-by-level};
 ghost use Rattle.members.specs.Members.{level-at, member-at};
 
-// A node is in the cover exactly if it has at least a level.
+// A node is in the cover exactly if its level is at least `least`.
 fn put_member(out: &mut [u8], at: usize, name: &[u8], number: u16, level: u16, least: u16) -> usize
     requires { ⌜ (length (now name) ≤ 9) × (at + 21 ≤ length (now out)) ⌝ }
     ensures { λ r. ⌜ Wrote (now (out .entry)) at (member-line (now (name .entry)) (leb least level) number level) 21 (now (out .exit)) r ⌝ }

@@ -21,10 +21,10 @@ use Rattle.model.proofs.Count.{test-true, test-ext, some-holds, some-witness, l
 use Rattle.model.proofs.Parts.{by-part}
 use Rattle.model.proofs.Refusal.{Accepted, message-accepted, list-none, list-accepted}
 use Rattle.model.proofs.Contents.{length-words, index-words}
-use Rattle.model.proofs.Taken.{message-taken, message-refused, accepted-message}
+use Rattle.model.proofs.Taken.{message-taken, message-refused, message-code, accepted-message}
 use Rattle.endings.specs.Ending.{filled-index}
 use Rattle.lists.specs.Once.{with-index, entered, finished, turned, turns}
-use Rattle.lists.proofs.Once.{message-code, entered-taken, entered-refused}
+use Rattle.lists.proofs.Once.{entered-taken, entered-refused}
 
 -- ---- boards that differ in the index alone
 

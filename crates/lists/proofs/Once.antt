@@ -12,10 +12,10 @@ use Rattle.model.specs.declared.Message.{Message}
 use Rattle.model.specs.Layout.{Index, Board, lent, index-places, onto, graph}
 use Rattle.model.specs.Contents.{Contents, slot, entry, put, board-of}
 use Rattle.model.specs.Refusal.{message-refusal, list-refusal}
-use Rattle.model.specs.Message.{MessageOutcome, board-after, board-message, ListOutcome}
+use Rattle.model.specs.Message.{board-after, board-message, ListOutcome}
 use Rattle.model.proofs.Count.{by-test}
 use Rattle.model.proofs.Refusal.{Accepted, message-accepted, list-none}
-use Rattle.model.proofs.Taken.{message-taken, message-refused}
+use Rattle.model.proofs.Taken.{message-code}
 use Rattle.pairs.specs.Accepted.{AcceptedPairs}
 use Rattle.entries.specs.Enter.{Room, with-pairs, EnteredValid}
 use Rattle.lists.specs.Once.{with-index, entered, finished, turned, turns-of, left-by}
@@ -34,14 +34,6 @@ no-turns zero messages n = absurd (n refl)
 no-turns (suc k) messages n = refl
 
 -- ---- one turn
-
--- a message call's number
-pub message-code : (b : Board) (m : Message) → board-message b m .answer .code ≡ message-refusal b m
-message-code b m = go (message-refusal b m) refl
-  where
-    go : (k : ℕ) → message-refusal b m ≡ k → board-message b m .answer .code ≡ k
-    go zero e = ap (λ (o : MessageOutcome). o .answer .code) (message-taken b m e)
-    go (suc k) e = ap (λ (o : MessageOutcome). o .answer .code) (message-refused b m k e)
 
 module _ (b : Board) (m : Message) where
   pub entered-taken : message-refusal b m ≡ 0 → entered b m ≡ with-index (board-after b m) (b .part Index)

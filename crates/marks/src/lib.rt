@@ -7,7 +7,7 @@ ghost use Rattle.model.specs.Count.{bit};
 ghost use Rattle.marks.specs.Marks.{RowMarked};
 use model::Counts;
 
-// Marks the nodes of one row, operators and rides with at least the same level: one loop marks them all.
+// Marks the nodes of one row whose level is at least `least`, operators and rides alike: one loop marks them all.
 fn mark_both(row: &[u16], n: usize, least: u16, marks: &mut [u16]) -> Counts
     requires { ⌜ (n ≤ length (now row)) × (length (now row) ≤ length (now marks)) × (length (now row) ≤ 260) ⌝ }
     ensures { λ r. ⌜ RowMarked (now (row .entry)) n least least (now (marks .entry)) r (now (marks .exit)) ⌝ }
@@ -22,7 +22,7 @@ fn mark_both(row: &[u16], n: usize, least: u16, marks: &mut [u16]) -> Counts
     }
 }
 
-// Marks the nodes of one row, operators with at least one level, rides with at least another.
+// Marks the operators of one row whose level is at least `operator_least`, then the rides whose level is at least `ride_least`.
 fn mark_sides(
     row: &[u16],
     n: usize,
@@ -43,7 +43,7 @@ fn mark_sides(
     }
 }
 
-// Marks the nodes of one row, each with at least the level of its side: n operators, then the rides.
+// Marks the nodes of one row, n operators and then rides, whose level is at least the least one of their side.
 pub fn mark_row(
     row: &[u16],
     n: usize,
@@ -60,7 +60,7 @@ pub fn mark_row(
     mark_sides(row, n, operator_least, ride_least, marks)
 }
 
-// The mark of a level of 0.
+// The mark of a node of level 0.
 fn mark_zero(least: u16) -> u16
     ensures { λ r. ⌜ r ≡ bit (leb least 0) ⌝ }
 {

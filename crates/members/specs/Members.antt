@@ -14,6 +14,6 @@ least-level (suc limit) β = max β 1
 abbrev pub level-at : List ℕ → ℕ → ℕ → ℕ
 level-at levels first i = getD levels (first + i) 0
 
--- whether that node has at least a level
+-- whether that level is at least the given one
 abbrev pub member-at : ℕ → List ℕ → ℕ → ℕ → Bool
 member-at least levels first i = leb least (level-at levels first i)

@@ -32,6 +32,14 @@ module _ (b : Board) (m : Message) where
   unfolding board-message
   message-refused k e = rw (e, board-message)
 
+  -- the number of a message call is that of its refusal
+  pub message-code : board-message b m .answer .code ≡ message-refusal b m
+  message-code = go (message-refusal b m) refl
+    where
+      go : (k : ℕ) → message-refusal b m ≡ k → board-message b m .answer .code ≡ k
+      go zero e = ap (λ (o : MessageOutcome). o .answer .code) (message-taken e)
+      go (suc k) e = ap (λ (o : MessageOutcome). o .answer .code) (message-refused k e)
+
   -- ---- the board after a taken message
 
   abbrev next : Contents

@@ -98,13 +98,15 @@ pub record ZeroIsNoLimit (h : Head) (index : List ℕ) : Type 0 where
   pub from-one : (α β x : ℕ) → 1 ≤ α → 1 ≤ β → x < mark-places h →
       marked (query-marks h index α β) x ≡ (leb α (h .rides) && leb β (getD index ((α - 1) * mark-places h + x) 0))
 
--- Document 02, 2.1: no call gives 11
+-- Document 02, 2.1: no call gives 11, and a list that isn't refused gives it to none of its messages
 pub record NeverEleven : Type 0 where
   pub build : (b : Board) (start : ℕ) → board-build b start .code ≢ 11
   pub query : (h : Head) (index : List ℕ) (α β : ℕ) (marks : List ℕ) → board-query h index α β marks .answer .code ≢ 11
   pub peel : (h : Head) (operators rides marks : List ℕ) (α β allowed : ℕ) → board-peel h operators rides marks α β allowed .answer .code ≢ 11
   pub message : (b : Board) (m : Message) → board-message b m .answer .code ≢ 11
   pub messages : (b : Board) (ms : List Message) (answers : List ℕ) → board-messages b ms answers .code ≢ 11
+  pub answers : (b : Board) (ms : List Message) (answers : List ℕ) (i : ℕ) → board-messages b ms answers .code ≡ 0 → i < length ms →
+      getD (board-messages b ms answers .answers) i 0 ≢ 11
 
 -- Demand 2 for queries: on the index of any clearances of the head's sizes the marks are the (α, β)-core, for every α and β from 0
 abbrev pub QueryIsCore : Type 0

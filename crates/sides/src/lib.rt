@@ -14,7 +14,7 @@ fn mark(level: u16, below: u16) -> u16
     if below < level { 1 } else { 0 }
 }
 
-// Marks the nodes with at least a level from 1, and counts them.
+// Marks the nodes whose level is at least `least`, from 1, and counts them.
 fn mark_from(levels: &[u16], least: u16, marks: &mut [u16]) -> u16
     requires { ⌜ (1 ≤ least) × (length (now marks) ≡ length (now levels)) × (length (now levels) ≤ 260) ⌝ }
     ensures { λ r. ⌜ Marked (now (levels .entry)) least r (now (marks .exit)) ⌝ }
@@ -32,7 +32,7 @@ fn mark_from(levels: &[u16], least: u16, marks: &mut [u16]) -> u16
     count
 }
 
-// Marks the nodes with at least a level, and counts them: all of them for level 0.
+// Marks the nodes whose level is at least `least`, and counts them: all of them where that is 0.
 pub fn mark_levels(levels: &[u16], least: u16, marks: &mut [u16]) -> u16
     requires { ⌜ (length (now marks) ≡ length (now levels)) × (length (now levels) ≤ 260) ⌝ }
     ensures { λ r. ⌜ Marked (now (levels .entry)) least r (now (marks .exit)) ⌝ }
