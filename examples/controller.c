@@ -1,7 +1,8 @@
 /*
  * A controller over the board: it takes the messages of a radio trace in the order in which they arrive, and prints for
  * each ride whether it gets its dispatch permit, before and after each message. A ride gets it while it is in cover
- * (alpha, beta).
+ * (alpha, beta). A withdrawal is previewed in spare memory before it is sent to the board: the permits that would be
+ * given after it are printed. The controller stops where the message then does anything else.
  *
  *     controller TRACE ALPHA BETA
  *
@@ -22,14 +23,16 @@
 #define MESSAGES_MOST 64
 #define START 10
 
-/* Document 01's board, twice. */
+/* Document 01's board, twice, and spare memory for previews. */
 #define PAIRS 7
 #define SAMPLE {{0, 0, 1, 1, 2, 2, 3}, {0, 1, 0, 1, 1, 2, 2}, {0}, {0}}
 
 BOARD_STORAGE(arriving_memory, OPERATORS, RIDES) = SAMPLE;
 BOARD_STORAGE(in_order_memory, OPERATORS, RIDES) = SAMPLE;
+BOARD_STORAGE(spare_memory, OPERATORS, RIDES);
 static Board arriving = BOARD_OVER(arriving_memory, OPERATORS, RIDES, PAIRS);
 static Board in_order = BOARD_OVER(in_order_memory, OPERATORS, RIDES, PAIRS);
+static Board spare = BOARD_OVER(spare_memory, OPERATORS, RIDES, 0);
 
 static BoardMessage trace[MESSAGES_MOST];
 static uint16_t answers[BOARD_ANSWER_PLACES(MESSAGES_MOST)];
@@ -53,7 +56,7 @@ static void print_permits(const char *when, const Board *board, uint16_t alpha, 
     check(board_peel_on(board, peeled, BOARD_LENGTH(peeled), alpha, beta, OPERATORS + RIDES).code);
     if (memcmp(marks, peeled, sizeof marks) != 0)
         stop("the board is damaged: its index is not that of its pairs");
-    printf("  %s", when);
+    printf("  %-8s", when);
     for (unsigned ride = 0; ride < RIDES; ride++) {
         int permit = marks[BOARD_RIDE_MARK(OPERATORS, ride)] == 1;
         printf("   ride %u: %9s", ride, permit ? "permit" : "no permit");
@@ -67,8 +70,8 @@ static void print_message(size_t number, BoardMessage m) {
            (unsigned long)m.stamp);
 }
 
-static void print_answer(BoardAnswer answer) {
-    printf("  answer   %u, %s", answer.code, board_text(answer.code));
+static void print_answer(const char *what, BoardAnswer answer) {
+    printf("  %-8s   %u, %s", what, answer.code, board_text(answer.code));
     if (answer.code == BOARD_DONE)
         printf("; index words that differ: %u", answer.differ);
     printf("\n");
@@ -105,9 +108,38 @@ static int by_stamp(const void *left, const void *right) {
     return (int)a->kind - (int)b->kind;
 }
 
-static int same(void) {
-    return memcmp(&arriving.head, &in_order.head, sizeof arriving.head) == 0 &&
-           memcmp(&arriving_memory, &in_order_memory, sizeof arriving_memory) == 0;
+/* Whether two boards over storage of the same size are the same, word for word. */
+static int same(const Board *a, const Board *b) {
+    return memcmp(&a->head, &b->head, sizeof a->head) == 0 &&
+           memcmp(a->operators, b->operators, a->operators_length * sizeof a->operators[0]) == 0 &&
+           memcmp(a->rides, b->rides, a->rides_length * sizeof a->rides[0]) == 0 &&
+           memcmp(a->stamps, b->stamps, a->stamps_length * sizeof a->stamps[0]) == 0 &&
+           memcmp(a->index, b->index, a->index_length * sizeof a->index[0]) == 0;
+}
+
+/* Prints what a message would do. Where it would be taken, the spare memory then holds the board after it. */
+static BoardAnswer print_preview(BoardMessage m, uint16_t alpha, uint16_t beta) {
+    BoardAnswer preview = board_preview_on(&arriving, m, &spare);
+    print_answer("preview", preview);
+    if (preview.code == BOARD_DONE)
+        print_permits("would be", &spare, alpha, beta);
+    return preview;
+}
+
+/* Compares what a message did with what its preview gave. */
+static void check_preview(BoardAnswer preview, BoardAnswer answer) {
+    if (answer.code != preview.code || answer.differ != preview.differ)
+        stop("the answer to a message is not that of its preview");
+    if (answer.code == BOARD_DONE && !same(&arriving, &spare))
+        stop("the board after a message is not that of its preview");
+}
+
+/* Previews a message, sends it to the board, and prints both answers. */
+static void send_previewed(BoardMessage m, uint16_t alpha, uint16_t beta) {
+    BoardAnswer preview = print_preview(m, alpha, beta);
+    BoardAnswer answer = board_message_on(&arriving, m);
+    check_preview(preview, answer);
+    print_answer("answer", answer);
 }
 
 /* A limit, 16 bits. */
@@ -133,14 +165,18 @@ int main(int count, char **words) {
     for (size_t i = 0; i < messages; i++) {
         print_message(i + 1, trace[i]);
         print_permits("before", &arriving, alpha, beta);
-        print_answer(board_message_on(&arriving, trace[i]));
-        print_permits("after ", &arriving, alpha, beta);
+        if (trace[i].kind == BOARD_WITHDRAWAL)
+            send_previewed(trace[i], alpha, beta);
+        else
+            print_answer("answer", board_message_on(&arriving, trace[i]));
+        print_permits("after", &arriving, alpha, beta);
     }
 
     check(board_build_on(&in_order, START));
     qsort(trace, messages, sizeof trace[0], by_stamp);
     check(board_messages_on(&in_order, trace, messages, answers, BOARD_LENGTH(answers)));
+    int equal = same(&arriving, &in_order);
     printf("the same messages in the order of their stamps: %s\n",
-           same() ? "the same board, word for word" : "ANOTHER BOARD");
-    return same() ? 0 : 1;
+           equal ? "the same board, word for word" : "ANOTHER BOARD");
+    return equal ? 0 : 1;
 }

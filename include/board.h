@@ -1,5 +1,5 @@
 /*
- * The crew cover board: its five calls for C11 and C++ on x86-64, in the static library libboard.a.
+ * The crew cover board: its six calls for C11 and C++ on x86-64, in the static library libboard.a.
  *
  * A board says which operator is cleared for which ride. Operators have the numbers 0 to operators - 1, rides 0 to
  * rides - 1. Cover (alpha, beta) is the largest set of operators and rides in which each operator is cleared for at
@@ -27,7 +27,8 @@
  * What every call asks of its caller, and cannot check:
  * - A pointer is not null, also where the length beside it is 0; it is aligned for its type; and it stands for as many
  *   places as its length says.
- * - No two parts lent to one call overlap, where the call writes one of them.
+ * - No two parts lent to one call overlap, where the call writes one of them. A head that is lent counts as a part. So
+ *   the spare memory of a preview lies apart from the board.
  * - No other thread writes a lent part during the call, or reads one that the call writes.
  *
  * Everything else is checked: a call that refuses answers a number from 1 and leaves every lent word as it was. Lent
@@ -36,13 +37,13 @@
  * For firmware (docs/INTERFACE.md says more):
  * - x86-64, System V calling convention, SSE2 and no more; no use of the red zone below the stack pointer.
  * - Deepest stack in bytes, measured at 200 x 60 (docs/BENCHMARK.md): build 25,728, query 96, peel 27,808, message
- *   25,776, message list 25,792.
+ *   25,776, message list 25,792, preview 25,888.
  * - No writable data; of the program it needs memcpy, memmove and memset at most.
- * - A reset in the middle of a call leaves a mixture of old and new words: build again from a pair table, and send the
- *   messages again.
+ * - A reset in the middle of a call leaves a mixture of old and new words in what the call writes: build again from a
+ *   pair table, and send the messages again. A preview writes the spare memory alone.
  * - Time grows with rides x rides x (operators + rides) for build and message, for a message list as for one message
- *   and with messages x pairs, with operators + rides for a query, with operators x rides + steps x (operators + rides)
- *   for a peel.
+ *   and with messages x pairs, for a preview as for one message and one copy of the board, with operators + rides for a
+ *   query, with operators x rides + steps x (operators + rides) for a peel.
  */
 #ifndef BOARD_H
 #define BOARD_H
@@ -60,7 +61,7 @@ extern "C" {
 
 /* The version of this header (docs/CHANGELOG.md), as a number to compare: 1.2.3 is 10203. */
 #define BOARD_VERSION_MAJOR 1
-#define BOARD_VERSION_MINOR 2
+#define BOARD_VERSION_MINOR 3
 #define BOARD_VERSION_PATCH 0
 #define BOARD_VERSION (BOARD_VERSION_MAJOR * 10000 + BOARD_VERSION_MINOR * 100 + BOARD_VERSION_PATCH)
 
@@ -160,7 +161,7 @@ typedef struct BoardMessage {
     uint32_t stamp;
 } BoardMessage;
 
-/* What a message answers: the number, and how many index words differ before and after. */
+/* What a message or a preview answers: the number, and how many index words differ before and after. */
 typedef struct BoardAnswer {
     uint16_t code;
     uint16_t differ;
@@ -287,6 +288,28 @@ uint16_t board_messages(BoardHead *head, uint16_t *operators, size_t operators_l
                         size_t answers_length);
 
 /*
+ * Preview: what a message would do, worked out in spare memory. The board is read and never written.
+ *
+ * Reads the whole board and the message. The spare parts need the lengths that the board needs. What they and the spare
+ * head hold does not matter.
+ *
+ * Writes, where the message would be taken: into the spare head and the spare parts, to those lengths, every word that
+ * board_message would leave on a copy of the board. The spare memory is then a board of its own, for any call; no
+ * dispatch permit comes from it. Sent as the board's next message, the message gets the same answer and leaves the same
+ * words in the board.
+ *
+ * Answers what board_message would answer: BOARD_DONE with the number of index words that differ before and after, or
+ * of 1 to 10 the lowest that applies, with count 0. A spare part that is too short is 3. A refusal leaves every lent
+ * word as it was, the spare head too.
+ */
+BoardAnswer board_preview(BoardHead head, const uint16_t *operators, size_t operators_length, const uint16_t *rides,
+                          size_t rides_length, const uint32_t *stamps, size_t stamps_length, const uint16_t *index,
+                          size_t index_length, BoardMessage message, BoardHead *spare_head, uint16_t *spare_operators,
+                          size_t spare_operators_length, uint16_t *spare_rides, size_t spare_rides_length,
+                          uint32_t *spare_stamps, size_t spare_stamps_length, uint16_t *spare_index,
+                          size_t spare_index_length);
+
+/*
  * A board as one thing: its head, and each part with its length. Keep one Board for one board: a copy has a head of its
  * own, and misses the pair count that a message leaves.
  */
@@ -357,6 +380,14 @@ static inline uint16_t board_messages_on(Board *board, const BoardMessage *messa
     return board_messages(&board->head, board->operators, board->operators_length, board->rides, board->rides_length,
                           board->stamps, board->stamps_length, board->index, board->index_length, messages,
                           messages_length, answers, answers_length);
+}
+
+/* `spare` is another Board, over storage of its own. */
+static inline BoardAnswer board_preview_on(const Board *board, BoardMessage message, Board *spare) {
+    return board_preview(board->head, board->operators, board->operators_length, board->rides, board->rides_length,
+                         board->stamps, board->stamps_length, board->index, board->index_length, message, &spare->head,
+                         spare->operators, spare->operators_length, spare->rides, spare->rides_length, spare->stamps,
+                         spare->stamps_length, spare->index, spare->index_length);
 }
 
 /* The text of a number. */

@@ -3,6 +3,7 @@
 
 mod lists;
 mod memory;
+mod previews;
 mod stack;
 mod tables;
 
@@ -338,6 +339,8 @@ fn main() {
     print_goal(&lines, "query", 2, "a Rust loop", 1.1);
     println!();
     print_bursts();
+    let sizes = [(50, 15, 375), (100, 30, 1500), (200, 60, 3000), (200, 60, 6000), (200, 60, 12000)];
+    previews::print(&sizes.map(|(operators, rides, pairs)| Case::new(operators, rides, pairs, messages)));
     println!("Growth, with half of all pairs:\n");
     let mut lines = Vec::new();
     for (operators, rides) in [(50, 15), (100, 30), (200, 60)] {

@@ -4,9 +4,10 @@ use crate::{limits, stack, Case, START};
 use board::{Board, Head, Memory, Refusal};
 
 /// The deepest stack of each call, over boards with few and many pairs.
-fn deepest() -> [usize; 5] {
-    let mut deepest = [0; 5];
+fn deepest() -> [usize; 6] {
+    let mut deepest = [0; 6];
     let (mut memory, mut other) = (Box::new(Memory::new()), Box::new(Memory::new()));
+    let mut spare = Box::new(Memory::new());
     for pairs in [1, 3000, 6000, 12000] {
         let case = Case::new(200, 60, pairs, 24);
         let (head, parts) = (Head { operators: 200, rides: 60, pairs: pairs as u16 }, other.parts());
@@ -24,10 +25,15 @@ fn deepest() -> [usize; 5] {
         let query = |(alpha, beta)| stack::deepest(|| assert!(board.query(alpha, beta, &mut marks).is_ok()));
         let queried = limits.map(query).into_iter().max().unwrap();
         let (sent, list) = case.messages.split_at(12);
+        let previewed = sent
+            .iter()
+            .map(|&one| stack::deepest(|| assert!(board.preview(one, spare.parts()).is_ok())))
+            .max()
+            .unwrap();
         let taken = sent.iter().map(|&one| stack::deepest(|| assert!(board.message(one).is_ok()))).max().unwrap();
         let listed = stack::deepest(|| assert!(board.messages(list, &mut answers).is_ok()));
         assert!(answers.iter().all(|&answer| answer == 0));
-        for (most, now) in deepest.iter_mut().zip([built, queried, peeled, taken, listed]) {
+        for (most, now) in deepest.iter_mut().zip([built, queried, peeled, taken, listed, previewed]) {
             *most = now.max(*most);
         }
     }
@@ -54,11 +60,13 @@ fn fewest<const N: usize>(mut call: impl FnMut([usize; N]) -> Result<(), Refusal
 }
 
 /// The bytes that each call must be lent, and what they are.
-fn lent() -> [(String, &'static str); 5] {
+fn lent() -> [(String, &'static str); 6] {
     let case = Case::new(200, 60, 6000, 12);
     let mut head = Head { operators: 200, rides: 60, pairs: 6000 };
     let (mut operators, mut rides, mut index) = (vec![0; MOST], vec![0; MOST], vec![0; MOST]);
     let (mut stamps, mut marks, mut answers) = (vec![0; MOST], vec![0; MOST], vec![0; MOST]);
+    let (mut spare_head, mut spare_operators, mut spare_rides) = (Head::default(), vec![0; MOST], vec![0; MOST]);
+    let (mut spare_stamps, mut spare_index) = (vec![0; MOST], vec![0; MOST]);
     for (place, pair) in case.pairs.iter().enumerate() {
         (operators[place], rides[place]) = *pair;
     }
@@ -77,9 +85,27 @@ fn lent() -> [(String, &'static str); 5] {
         board::messages(&mut head, operators, rides, &mut stamps[..s], &mut index[..i], &case.messages, answers)
             .map(|_| ())
     });
+    let preview = fewest(|[o, r, s, i, spare_o, spare_r, spare_s, spare_i]| {
+        board::preview(
+            head,
+            &operators[..o],
+            &rides[..r],
+            &stamps[..s],
+            &index[..i],
+            case.messages[0],
+            &mut spare_head,
+            &mut spare_operators[..spare_o],
+            &mut spare_rides[..spare_r],
+            &mut spare_stamps[..spare_s],
+            &mut spare_index[..spare_i],
+        )
+        .map(|_| ())
+    });
     let board_bytes = |[o, r, s, i]: [usize; 4]| 2 * o + 2 * r + 4 * s + 2 * i;
     let [o, r, s, i, answers] = list;
     assert!(answers == case.messages.len());
+    let [read @ .., spare_o, spare_r, spare_s, spare_i] = preview;
+    let spare = [spare_o, spare_r, spare_s, spare_i];
     let head_bytes = size_of::<Head>();
     let each = size_of::<board::Message>() + size_of::<u16>();
     [
@@ -91,13 +117,17 @@ fn lent() -> [(String, &'static str); 5] {
             format!("{} + {each} for each message", head_bytes + board_bytes([o, r, s, i])),
             "as message, the messages and their answers",
         ),
+        (
+            format!("{}", board_bytes(read) + head_bytes + board_bytes(spare)),
+            "pair arrays, stamps, index; the same again and a head as spare memory",
+        ),
     ]
 }
 
 pub fn print() {
     println!("| Call | Deepest stack, bytes | Lent, bytes | What is lent |");
     println!("|---|---:|---:|---|");
-    let names = ["build", "query", "peel", "message", "message list"];
+    let names = ["build", "query", "peel", "message", "message list", "preview"];
     for ((name, deep), (bytes, what)) in names.iter().zip(deepest()).zip(lent()) {
         println!("| {name} | {deep} | {bytes} | {what} |");
     }

@@ -2,15 +2,32 @@
 
 use crate::numbers::Numbers;
 use differential::guarded::{End, Region};
+use differential::Library;
 use reference::frames::{Board, Reference};
-use reference::{Answer, Counts, Head, Message, Parts, Peeled, Slices, Vectors};
+use reference::{Answer, Counts, Head, Message, Parts, Peeled, Slices, Vectors, Views};
 use std::fmt::Debug;
+use std::ops::Deref;
 
 /// A board, each part as long as it is lent.
 #[derive(Clone, Debug, PartialEq, Eq)]
 pub struct Lent {
     pub head: Head,
     pub parts: Vectors,
+}
+
+impl Lent {
+    /// The board alone: each part to the places that it needs.
+    pub fn board(&self) -> Lent {
+        let needed = self.head.lengths();
+        let Parts { operators, rides, stamps, index } = &self.parts;
+        let parts = Parts {
+            operators: operators[..needed.operators].to_vec(),
+            rides: rides[..needed.rides].to_vec(),
+            stamps: stamps[..needed.stamps].to_vec(),
+            index: index[..needed.index].to_vec(),
+        };
+        Lent { head: self.head, parts }
+    }
 }
 
 /// The most places that are lent of a part, longer than any board needs.
@@ -22,32 +39,43 @@ pub const LIST_MOST: usize = 400;
 /// Document 02: this number is never given.
 pub const NEVER_GIVEN: u16 = 11;
 
+/// Guarded memory for the parts of a board.
+type PartRegions = Parts<Region<u16>, Region<u32>>;
+
+fn part_regions() -> PartRegions {
+    Parts {
+        operators: Region::new(PAIRS_MOST),
+        rides: Region::new(PAIRS_MOST),
+        stamps: Region::new(PAIRS_MOST),
+        index: Region::new(INDEX_MOST),
+    }
+}
+
+fn are_parts_intact(regions: &PartRegions) -> bool {
+    let Parts { operators, rides, stamps, index } = regions;
+    operators.is_intact() && rides.is_intact() && stamps.is_intact() && index.is_intact()
+}
+
 /// Guarded memory for everything that a call is lent.
 struct Regions {
     head: Region<Head>,
-    parts: Parts<Region<u16>, Region<u32>>,
+    parts: PartRegions,
     marks: Region<u16>,
     messages: Region<Message>,
     answers: Region<u16>,
+    spare: PartRegions,
 }
 
 impl Regions {
     fn new() -> Regions {
-        let parts = Parts {
-            operators: Region::new(PAIRS_MOST),
-            rides: Region::new(PAIRS_MOST),
-            stamps: Region::new(PAIRS_MOST),
-            index: Region::new(INDEX_MOST),
-        };
         let (marks, messages, answers) = (Region::new(MARKS_MOST), Region::new(LIST_MOST), Region::new(LIST_MOST));
-        Regions { head: Region::new(1), parts, marks, messages, answers }
+        Regions { head: Region::new(1), parts: part_regions(), marks, messages, answers, spare: part_regions() }
     }
 
     fn are_intact(&self) -> bool {
-        let Parts { operators, rides, stamps, index } = &self.parts;
-        let board = operators.is_intact() && rides.is_intact() && stamps.is_intact() && index.is_intact();
+        let boards = are_parts_intact(&self.parts) && are_parts_intact(&self.spare);
         let lists = self.messages.is_intact() && self.answers.is_intact();
-        self.head.is_intact() && board && self.marks.is_intact() && lists
+        self.head.is_intact() && boards && self.marks.is_intact() && lists
     }
 }
 
@@ -61,12 +89,22 @@ fn end(ends: &mut Numbers) -> End {
 }
 
 /// Lends the words of each part, to be written.
-fn lend_parts<'a>(regions: &'a mut Parts<Region<u16>, Region<u32>>, words: &Vectors, ends: &mut Numbers) -> Slices<'a> {
+fn lend_parts<'a>(regions: &'a mut PartRegions, words: &Vectors, ends: &mut Numbers) -> Slices<'a> {
     Parts {
         operators: regions.operators.lend_mut(&words.operators, end(ends)),
         rides: regions.rides.lend_mut(&words.rides, end(ends)),
         stamps: regions.stamps.lend_mut(&words.stamps, end(ends)),
         index: regions.index.lend_mut(&words.index, end(ends)),
+    }
+}
+
+/// Lends the words of each part, to be read.
+fn view_parts<'a>(regions: &'a mut PartRegions, words: &Vectors, ends: &mut Numbers) -> Views<'a> {
+    Parts {
+        operators: regions.operators.lend(&words.operators, end(ends)),
+        rides: regions.rides.lend(&words.rides, end(ends)),
+        stamps: regions.stamps.lend(&words.stamps, end(ends)),
+        index: regions.index.lend(&words.index, end(ends)),
     }
 }
 
@@ -79,7 +117,14 @@ pub struct Totals {
     pub messages: u64,
     pub lists: u64,
     pub listed_messages: u64,
+    pub previews: u64,
     pub numbers: [u64; 13],
+    /// Previews by number, 0 to 10.
+    pub preview_numbers: [u64; 11],
+    /// Previews whose message was then sent to the board.
+    pub sent: u64,
+    /// Previews whose spare memory was the board of the calls after them.
+    pub exchanged: u64,
     pub settled: u64,
     pub unsettled: u64,
     pub alpha_zero: u64,
@@ -93,7 +138,7 @@ pub struct Totals {
 
 impl Totals {
     pub fn calls(&self) -> u64 {
-        self.builds + self.queries + self.peels + self.messages + self.lists
+        self.builds + self.queries + self.peels + self.messages + self.lists + self.previews
     }
 
     /// Counts a number that a call gave. One that no call gives is a difference, also where both sides give it.
@@ -102,6 +147,15 @@ impl Totals {
         match self.numbers.get_mut(code as usize) {
             Some(count) if code != NEVER_GIVEN => *count += 1,
             _ => self.differ(&format!("number {code} is given")),
+        }
+    }
+
+    /// Counts a number that a preview gave. One that no preview gives is a difference, also where both sides give it.
+    fn preview_number(&mut self, head: Head, code: u16) {
+        self.number(head, code);
+        match self.preview_numbers.get_mut(code as usize) {
+            Some(count) => *count += 1,
+            None => self.differ(&format!("a preview gives {code}")),
         }
     }
 
@@ -129,12 +183,25 @@ impl Totals {
         }
     }
 
-    fn same_parts(&mut self, call: &str, library: &Slices, reference: &Vectors) {
+    fn same_parts<A, B>(&mut self, call: &str, library: &Parts<A, B>, reference: &Vectors)
+    where
+        A: Deref<Target = [u16]>,
+        B: Deref<Target = [u32]>,
+    {
         let Parts { operators, rides, stamps, index } = library;
         self.same_words(call, "operators", operators, &reference.operators);
         self.same_words(call, "rides", rides, &reference.rides);
         self.same_words(call, "stamps", stamps, &reference.stamps);
         self.same_words(call, "index", index, &reference.index);
+    }
+
+    /// A preview that was not refused, and its message sent to the board: the answers, and the spare board and the board.
+    pub fn same_as_sent(&mut self, previewed: (Answer, &Lent), sent: (Answer, &Lent)) {
+        self.sent += 1;
+        self.same("a preview, and its message then", previewed.0, sent.0);
+        if previewed.1.board() != sent.1.board() {
+            self.differ("the spare board is not the one that the message leaves");
+        }
     }
 
     pub fn differ(&mut self, what: &str) {
@@ -151,7 +218,7 @@ pub struct Compared<B> {
     pub totals: Totals,
 }
 
-impl<B: Board> Compared<B> {
+impl<B: Library> Compared<B> {
     pub fn new(library: B, seed: u64) -> Compared<B> {
         Compared { library, regions: Regions::new(), ends: Numbers::new(!seed), totals: Totals::default() }
     }
@@ -248,6 +315,24 @@ impl<B: Board> Compared<B> {
         self.check_filled();
         expected
     }
+
+    pub fn preview(&mut self, lent: &Lent, one: Message, spare: &mut Lent) -> Answer {
+        let before = spare.clone();
+        let expected = reference::preview(lent.head, &lent.parts.view(), one, &mut spare.head, &mut spare.parts.lend());
+        let Compared { library, regions, ends, totals } = self;
+        let parts = view_parts(&mut regions.parts, &lent.parts, ends);
+        let head = regions.head.lend_mut(&[before.head], end(ends));
+        let mut left = lend_parts(&mut regions.spare, &before.parts, ends);
+        let found = library.preview(lent.head, &parts, one, &mut head[0], &mut left);
+        totals.previews += 1;
+        totals.preview_number(lent.head, found.code);
+        totals.same("preview", found, expected);
+        totals.same_parts("preview", &parts, &lent.parts);
+        totals.same_words("preview", "spare head", head, &[spare.head]);
+        totals.same_parts("preview, spare", &left, &spare.parts);
+        self.check_filled();
+        expected
+    }
 }
 
 #[cfg(test)]
@@ -262,5 +347,42 @@ mod tests {
             let is_given = code <= 12 && code != 11;
             assert_eq!((totals.numbers.iter().sum::<u64>(), totals.differences), (is_given as u64, !is_given as u64));
         }
+    }
+
+    #[test]
+    fn a_number_that_no_preview_gives_is_a_difference() {
+        for code in 0..=14 {
+            let mut totals = Totals::default();
+            totals.preview_number(Head { operators: 4, rides: 3, pairs: 7 }, code);
+            assert_eq!(totals.preview_numbers.iter().sum::<u64>(), (code <= 10) as u64);
+            assert_eq!(totals.differences == 0, code <= 10);
+        }
+    }
+
+    /// Another answer, another head and another word of a part are each a difference; another word past a part's needed
+    /// places is none.
+    #[test]
+    fn a_preview_that_is_not_what_the_message_does_is_a_difference() {
+        let taken = Answer { code: 0, differ: 5 };
+        let head = Head { operators: 2, rides: 1, pairs: 1 };
+        let parts = Vectors { operators: vec![0; 3], rides: vec![0; 3], stamps: vec![0; 3], index: vec![0; 4] };
+        let board = Lent { head, parts };
+        let differences = |answer: Answer, change: fn(&mut Lent)| {
+            let (mut totals, mut spare) = (Totals::default(), board.clone());
+            change(&mut spare);
+            totals.same_as_sent((answer, &spare), (taken, &board));
+            totals.differences
+        };
+        assert_eq!(differences(taken, |_| {}), 0);
+        assert_eq!(differences(taken, |spare| spare.parts.operators[2] = 9), 0);
+        assert_eq!(differences(taken, |spare| spare.parts.rides[2] = 9), 0);
+        assert_eq!(differences(taken, |spare| spare.parts.stamps[2] = 9), 0);
+        assert_eq!(differences(taken, |spare| spare.parts.index[3] = 9), 0);
+        assert_eq!(differences(Answer { code: 0, differ: 4 }, |_| {}), 1);
+        assert_eq!(differences(taken, |spare| spare.head.pairs = 0), 1);
+        assert_eq!(differences(taken, |spare| spare.parts.operators[1] = 9), 1);
+        assert_eq!(differences(taken, |spare| spare.parts.rides[1] = 9), 1);
+        assert_eq!(differences(taken, |spare| spare.parts.stamps[1] = 9), 1);
+        assert_eq!(differences(taken, |spare| spare.parts.index[2] = 9), 1);
     }
 }

@@ -1,10 +1,15 @@
-//! The comparison itself is tried: between the reference and itself it finds nothing, and it finds each of these faults.
+//! The comparison itself is tried: between the reference and itself it finds nothing, and it finds each of these faults,
+//! or the fault stops the program.
 
-use crate::compared::Compared;
+use crate::compared::{Compared, Totals};
 use crate::numbers::Numbers;
 use crate::sequences::{delivery, sequence, Size};
+use differential::guarded::PAGE;
+use differential::Library;
 use reference::frames::{Board, Reference};
-use reference::{Answer, Counts, Head, Message, Peeled, Slices};
+use reference::{Answer, Counts, Head, Message, Parts, Peeled, Slices, Vectors, Views, GRANT, WITHDRAWAL};
+use std::os::unix::process::ExitStatusExt;
+use std::process::Command;
 
 #[derive(Clone, Copy, Debug, PartialEq, Eq)]
 enum Fault {
@@ -35,9 +40,49 @@ enum Fault {
     MessagePairs,
     ListAnswer,
     ListNumber,
+    /// A grant is previewed for a withdrawal, and a withdrawal for a grant.
+    PreviewOtherKind,
+    PreviewDifferThoughRefused,
+    PreviewWritesThoughRefused,
+    PreviewHeadThoughRefused,
+    /// The spare head keeps its operators.
+    PreviewOperatorsKept,
+    /// The spare head keeps its rides.
+    PreviewRidesKept,
+    /// The spare head gets the board's pair count before the message.
+    PreviewPairsBefore,
+    /// The spare pair arrays keep their words from the pair count on.
+    PreviewTailKept,
+    /// Of the spare stamps only the pair's own is written.
+    PreviewStampsKept,
+    /// The spare index is not written.
+    PreviewIndexKept,
+    /// The words of the spare index before and after are compared.
+    PreviewDifferOfSpare,
+    /// The places of the board's index past those needed are copied too.
+    PreviewCopiesPastNeeded,
+    /// Spare memory that is too short is refused before 1 and 2.
+    PreviewShortFirst,
+    /// Spare memory that is too short is refused after 4.
+    PreviewShortAfterFour,
+    /// Spare memory that is too short is refused after 10.
+    PreviewShortLast,
+    /// Spare memory with too short an index is not refused for that.
+    PreviewShortIndex,
+    /// 1 is given where the spare head has operators over 200.
+    PreviewReadsSpareHead,
+    /// A byte beside the spare stamps is written.
+    PreviewWritesBesideSpare,
+    /// A byte past the end of the spare index is written.
+    PreviewWritesPastSpare,
+    /// A byte of the board's operators is written.
+    PreviewWritesOperators,
+    PreviewWritesRides,
+    PreviewWritesStamps,
+    PreviewWritesIndex,
 }
 
-const FAULTS: [Fault; 19] = [
+const FAULTS: [Fault; 37] = [
     Fault::BuildRefuses,
     Fault::BuildIndex,
     Fault::BuildWritesThoughRefused,
@@ -57,6 +102,33 @@ const FAULTS: [Fault; 19] = [
     Fault::MessagePairs,
     Fault::ListAnswer,
     Fault::ListNumber,
+    Fault::PreviewOtherKind,
+    Fault::PreviewDifferThoughRefused,
+    Fault::PreviewWritesThoughRefused,
+    Fault::PreviewHeadThoughRefused,
+    Fault::PreviewOperatorsKept,
+    Fault::PreviewRidesKept,
+    Fault::PreviewPairsBefore,
+    Fault::PreviewTailKept,
+    Fault::PreviewStampsKept,
+    Fault::PreviewIndexKept,
+    Fault::PreviewDifferOfSpare,
+    Fault::PreviewCopiesPastNeeded,
+    Fault::PreviewShortFirst,
+    Fault::PreviewShortAfterFour,
+    Fault::PreviewShortLast,
+    Fault::PreviewShortIndex,
+    Fault::PreviewReadsSpareHead,
+    Fault::PreviewWritesBesideSpare,
+];
+
+/// Faults that stop the program.
+const STOPS: [Fault; 5] = [
+    Fault::PreviewWritesPastSpare,
+    Fault::PreviewWritesOperators,
+    Fault::PreviewWritesRides,
+    Fault::PreviewWritesStamps,
+    Fault::PreviewWritesIndex,
 ];
 
 /// The reference with a fault.
@@ -153,25 +225,173 @@ impl Board for Faulty {
     }
 }
 
-/// The differences that some sequences and deliveries find.
-fn differences(fault: Fault) -> u64 {
+/// The parts as they are lent, copied.
+fn copy(parts: &Slices) -> Vectors {
+    let Parts { operators, rides, stamps, index } = parts;
+    Views { operators, rides, stamps, index }.copy()
+}
+
+/// How many words differ.
+fn differing(one: &[u16], other: &[u16]) -> u16 {
+    one.iter().zip(other).filter(|(one, other)| one != other).count() as u16
+}
+
+/// Writes a byte so many bytes from the start of a part.
+fn write_byte<T>(part: &[T], offset: isize) {
+    unsafe { part.as_ptr().cast::<u8>().cast_mut().offset(offset).write_volatile(0) }
+}
+
+/// Writes a byte beside a part that doesn't fill its pages, at the end that lies against no page.
+fn write_beside<T>(part: &[T]) {
+    let is_low = part.as_ptr() as usize % PAGE == 0;
+    write_byte(part, if is_low { size_of_val(part) as isize } else { -1 });
+}
+
+impl Faulty {
+    /// The number that a faulty preview gives before it does anything.
+    fn preview_number(
+        &self,
+        head: Head,
+        parts: &Views,
+        message: Message,
+        spare_head: Head,
+        spare: &Slices,
+    ) -> Option<u16> {
+        let needed = head.lengths();
+        let short_pairs = spare.operators.len() < needed.operators || spare.rides.len() < needed.rides;
+        let short_but_index = short_pairs || spare.stamps.len() < needed.stamps;
+        let short = short_but_index || spare.index.len() < needed.index;
+        // With spare memory that is long enough where the board's own is.
+        let number = reference::preview(head, parts, message, &mut { head }, &mut parts.copy().lend()).code;
+        match self.0 {
+            Fault::PreviewShortFirst if short => Some(3),
+            Fault::PreviewShortAfterFour if short && number == 4 => Some(4),
+            Fault::PreviewShortLast if short && number != 0 => Some(number),
+            Fault::PreviewShortIndex if short && !short_but_index => Some(number),
+            Fault::PreviewReadsSpareHead if spare_head.operators > 200 => Some(1),
+            _ => None,
+        }
+    }
+
+    /// Spoils what a preview that is not refused left. The spare head and parts before it are given too.
+    fn spoil_preview(
+        &self,
+        head: Head,
+        parts: &Views,
+        message: Message,
+        before: (Head, Vectors),
+        spare_head: &mut Head,
+        spare: &mut Slices,
+    ) {
+        let (pairs, places, words) = (spare_head.pairs as usize, head.places(), head.words());
+        match self.0 {
+            Fault::PreviewOperatorsKept => spare_head.operators = before.0.operators,
+            Fault::PreviewRidesKept => spare_head.rides = before.0.rides,
+            Fault::PreviewPairsBefore => spare_head.pairs = head.pairs,
+            Fault::PreviewTailKept => {
+                spare.operators[pairs..places].copy_from_slice(&before.1.operators[pairs..places]);
+                spare.rides[pairs..places].copy_from_slice(&before.1.rides[pairs..places]);
+            }
+            Fault::PreviewStampsKept => {
+                spare.stamps.copy_from_slice(&before.1.stamps);
+                spare.stamps[(message.operator * head.rides + message.ride) as usize] = message.stamp;
+            }
+            Fault::PreviewIndexKept => spare.index.copy_from_slice(&before.1.index),
+            Fault::PreviewCopiesPastNeeded => {
+                let end = parts.index.len().min(spare.index.len());
+                spare.index[words..end].copy_from_slice(&parts.index[words..end]);
+            }
+            Fault::PreviewWritesBesideSpare => write_beside(spare.stamps),
+            Fault::PreviewWritesPastSpare => write_byte(spare.index, size_of_val(spare.index) as isize),
+            Fault::PreviewWritesOperators => write_byte(parts.operators, 0),
+            Fault::PreviewWritesRides => write_byte(parts.rides, 0),
+            Fault::PreviewWritesStamps => write_byte(parts.stamps, 0),
+            Fault::PreviewWritesIndex => write_byte(parts.index, 0),
+            _ => {}
+        }
+    }
+}
+
+impl Library for Faulty {
+    fn preview(
+        &mut self,
+        head: Head,
+        parts: &Views,
+        message: Message,
+        spare_head: &mut Head,
+        spare: &mut Slices,
+    ) -> Answer {
+        if let Some(code) = self.preview_number(head, parts, message, *spare_head, spare) {
+            return Answer { code, differ: 0 };
+        }
+        let kind = match (self.0, message.kind) {
+            (Fault::PreviewOtherKind, GRANT) => WITHDRAWAL,
+            (Fault::PreviewOtherKind, WITHDRAWAL) => GRANT,
+            _ => message.kind,
+        };
+        let before = (*spare_head, copy(spare));
+        let mut answer = reference::preview(head, parts, Message { kind, ..message }, spare_head, spare);
+        match (self.0, answer.code) {
+            (Fault::PreviewDifferThoughRefused, 1..) => answer.differ = 1,
+            (Fault::PreviewWritesThoughRefused, 1..) => spoil(spare.index),
+            (Fault::PreviewHeadThoughRefused, 1..) => *spare_head = head,
+            (Fault::PreviewDifferOfSpare, 0) => answer.differ = differing(spare.index, &before.1.index),
+            (_, 0) => self.spoil_preview(head, parts, message, before, spare_head, spare),
+            _ => {}
+        }
+        answer
+    }
+}
+
+/// What sequences and deliveries find, until it is enough.
+fn found(fault: Fault, enough: impl Fn(&Totals) -> bool) -> Totals {
     let mut numbers = Numbers::new(1);
     let mut compared = Compared::new(Faulty(fault), 1);
-    for _ in 0..20 {
+    for _ in 0..200 {
         sequence(&mut compared, &mut numbers, Size::Small);
         delivery(&mut compared, &mut numbers, Size::Small);
+        if enough(&compared.totals) {
+            break;
+        }
     }
-    compared.totals.differences
+    compared.totals
 }
 
 #[test]
 fn the_reference_does_not_differ_from_itself() {
-    assert_eq!(differences(Fault::None), 0);
+    assert_eq!(found(Fault::None, |_| false).differences, 0);
+}
+
+/// Among the calls are previews that give each of 0 to 10, whose message is then sent, and whose spare memory is then the
+/// board.
+#[test]
+fn each_number_of_a_preview_arises() {
+    let totals = found(Fault::None, |_| false);
+    assert!(totals.preview_numbers.iter().all(|count| *count > 0), "{:?}", totals.preview_numbers);
+    assert!(totals.sent > 0 && totals.exchanged > 0, "{} {}", totals.sent, totals.exchanged);
 }
 
 #[test]
 fn each_fault_is_found() {
     for fault in FAULTS {
-        assert!(differences(fault) > 0, "{fault:?} is not found");
+        let totals = found(fault, |totals| totals.differences > 0);
+        assert!(totals.differences > 0, "{fault:?} is not found");
+    }
+}
+
+/// Each in a process of its own.
+#[test]
+fn each_write_outside_stops_the_program() {
+    let name = "faults::each_write_outside_stops_the_program";
+    if let Ok(wanted) = std::env::var("FAULT") {
+        let fault = STOPS.into_iter().find(|fault| format!("{fault:?}") == wanted).unwrap();
+        found(fault, |_| false);
+        return;
+    }
+    const SEGMENTATION_FAULT: i32 = 11;
+    for fault in STOPS {
+        let program = std::env::current_exe().unwrap();
+        let run = Command::new(program).args([name, "--exact"]).env("FAULT", format!("{fault:?}")).output().unwrap();
+        assert_eq!(run.status.signal(), Some(SEGMENTATION_FAULT), "{fault:?}");
     }
 }

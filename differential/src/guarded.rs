@@ -12,7 +12,7 @@ const NONE: c_int = 0;
 const READ: c_int = 1;
 const READ_WRITE: c_int = 3;
 const PRIVATE_ANONYMOUS: c_int = 0x22;
-const PAGE: usize = 4096;
+pub const PAGE: usize = 4096;
 const FILL: u8 = 0x5A;
 
 /// Room for so many places, and the part that is lent of it now. It stays until the program ends.

@@ -1,10 +1,22 @@
-//! The proved library's calls, as the static library exports them, behind the reference's trait.
+//! The proved library's calls, as the static library exports them, behind the reference's trait and one for previews.
 
 pub mod guarded;
 
 use board::exported;
 use reference::frames::Board;
-use reference::{Answer, Counts, Head, Message, Parts, Peeled, Slices};
+use reference::{Answer, Counts, Head, Message, Parts, Peeled, Slices, Views};
+
+/// The calls that are compared: those that a stream has, and previews.
+pub trait Library: Board {
+    fn preview(
+        &mut self,
+        head: Head,
+        parts: &Views,
+        message: Message,
+        spare_head: &mut Head,
+        spare: &mut Slices,
+    ) -> Answer;
+}
 
 fn head_of(head: Head) -> board::Head {
     board::Head { operators: head.operators, rides: head.rides, pairs: head.pairs }
@@ -125,5 +137,42 @@ impl Board for Proved {
                 answers.len(),
             )
         }
+    }
+}
+
+impl Library for Proved {
+    fn preview(
+        &mut self,
+        head: Head,
+        parts: &Views,
+        message: Message,
+        spare_head: &mut Head,
+        spare: &mut Slices,
+    ) -> Answer {
+        let Parts { operators, rides, stamps, index } = parts;
+        let answer = unsafe {
+            exported::board_preview(
+                head_of(head),
+                operators.as_ptr(),
+                operators.len(),
+                rides.as_ptr(),
+                rides.len(),
+                stamps.as_ptr(),
+                stamps.len(),
+                index.as_ptr(),
+                index.len(),
+                message_of(message),
+                (spare_head as *mut Head).cast(),
+                spare.operators.as_mut_ptr(),
+                spare.operators.len(),
+                spare.rides.as_mut_ptr(),
+                spare.rides.len(),
+                spare.stamps.as_mut_ptr(),
+                spare.stamps.len(),
+                spare.index.as_mut_ptr(),
+                spare.index.len(),
+            )
+        };
+        Answer { code: answer.code, differ: answer.differ }
     }
 }

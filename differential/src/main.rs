@@ -1,4 +1,4 @@
-//! Random sequences of the five calls on the library and on the reference, for so many seconds, from a seed.
+//! Random sequences of the calls on the library and on the reference, for so many seconds, from a seed.
 
 mod compared;
 #[cfg(test)]
@@ -16,6 +16,10 @@ fn print_totals(totals: &Totals) {
     println!("calls compared: {}", totals.calls());
     println!("  build {}, query {}, peel {}", totals.builds, totals.queries, totals.peels);
     println!("  message {}, message list {} with {} messages", totals.messages, totals.lists, totals.listed_messages);
+    println!(
+        "  preview {}, its message then sent {}, its spare memory then the board {}",
+        totals.previews, totals.sent, totals.exchanged
+    );
     println!("  accepted on boards of 200 × 60: {}", totals.largest);
     println!("  peels settled {}, unsettled {}", totals.settled, totals.unsettled);
     println!(
@@ -25,6 +29,7 @@ fn print_totals(totals: &Totals) {
     for (number, count) in totals.numbers.iter().enumerate().filter(|(number, _)| *number != NEVER_GIVEN as usize) {
         println!("  answered {number}: {count}");
     }
+    println!("  previews answered 0 to 10: {:?}", totals.preview_numbers);
     println!("message sets delivered in several orders: {}", totals.deliveries);
     println!("lent words compared: {}", totals.words);
     println!("differences: {}", totals.differences);

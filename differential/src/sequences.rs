@@ -2,8 +2,8 @@
 
 use crate::compared::{Compared, Lent, INDEX_MOST, LIST_MOST, MARKS_MOST, PAIRS_MOST};
 use crate::numbers::Numbers;
-use reference::frames::Board;
-use reference::{Head, Message, Vectors, GRANT, WITHDRAWAL};
+use differential::Library;
+use reference::{Head, Lengths, Message, Parts, Vectors, GRANT, WITHDRAWAL};
 use std::collections::BTreeMap;
 
 const START: u32 = 100;
@@ -67,16 +67,26 @@ fn table(numbers: &mut Numbers, n: u16, m: u16) -> Vec<(u16, u16)> {
     pairs
 }
 
-/// Memory of any content for a board, with its pairs in place: as long as needed, or a little longer.
-fn lent(numbers: &mut Numbers, n: u16, m: u16, pairs: &[(u16, u16)]) -> Lent {
-    let head = Head { operators: n, rides: m, pairs: pairs.len() as u16 };
-    let lengths = head.lengths().map(|needed| needed + numbers.of(&[0, 0, 0, 1, 2, 5]));
-    let mut parts = Vectors {
+/// A length that is the one needed, or a little longer.
+fn length(numbers: &mut Numbers, needed: usize) -> usize {
+    needed + numbers.of(&[0, 0, 0, 1, 2, 5])
+}
+
+/// Parts of any content.
+fn parts(numbers: &mut Numbers, lengths: Lengths) -> Vectors {
+    Vectors {
         operators: (0..lengths.operators).map(|_| numbers.word()).collect(),
         rides: (0..lengths.rides).map(|_| numbers.word()).collect(),
         stamps: (0..lengths.stamps).map(|_| numbers.next() as u32).collect(),
         index: (0..lengths.index).map(|_| numbers.word()).collect(),
-    };
+    }
+}
+
+/// Memory of any content for a board, with its pairs in place: as long as needed, or a little longer.
+fn lent(numbers: &mut Numbers, n: u16, m: u16, pairs: &[(u16, u16)]) -> Lent {
+    let head = Head { operators: n, rides: m, pairs: pairs.len() as u16 };
+    let lengths = head.lengths().map(|needed| length(numbers, needed));
+    let mut parts = parts(numbers, lengths);
     for (place, pair) in pairs.iter().enumerate() {
         (parts.operators[place], parts.rides[place]) = *pair;
     }
@@ -92,6 +102,16 @@ fn resize<T: Clone + Default>(numbers: &mut Numbers, part: &mut Vec<T>, most: us
         _ => (part.len() + 1 + numbers.below(7)).min(most),
     };
     part.resize(length, T::default());
+}
+
+/// Cuts one of the four parts short, or makes it longer.
+fn resize_part(numbers: &mut Numbers, parts: &mut Vectors, part: usize) {
+    match part {
+        0 => resize(numbers, &mut parts.operators, PAIRS_MOST),
+        1 => resize(numbers, &mut parts.rides, PAIRS_MOST),
+        2 => resize(numbers, &mut parts.stamps, PAIRS_MOST),
+        _ => resize(numbers, &mut parts.index, INDEX_MOST),
+    }
 }
 
 /// Changes a word of a part.
@@ -115,10 +135,7 @@ fn damage(numbers: &mut Numbers, lent: &mut Lent) {
             let over = (head.places() + 1).min(65535) as u16;
             lent.head.pairs = numbers.of(&[over, 65535, head.pairs.saturating_add(1), head.pairs.saturating_sub(1)])
         }
-        3 => resize(numbers, &mut parts.operators, PAIRS_MOST),
-        4 => resize(numbers, &mut parts.rides, PAIRS_MOST),
-        5 => resize(numbers, &mut parts.stamps, PAIRS_MOST),
-        6 => resize(numbers, &mut parts.index, INDEX_MOST),
+        part @ 3..=6 => resize_part(numbers, parts, part - 3),
         7 => {
             let word = numbers.of(&[0, head.operators, head.operators.saturating_sub(1), 65535]);
             let used = pairs.min(parts.operators.len());
@@ -209,8 +226,55 @@ fn message(numbers: &mut Numbers, head: Head) -> Message {
     }
 }
 
-/// A board that is built, and then queried, peeled and sent messages; some calls are given damaged input.
-pub fn sequence<B: Board>(compared: &mut Compared<B>, numbers: &mut Numbers, size: Size) {
+/// A head of any content, often one that a board can't have.
+fn any_head(numbers: &mut Numbers) -> Head {
+    let words = [0, 1, 200, 201, 65535, numbers.word()];
+    Head { operators: numbers.of(&words), rides: numbers.of(&words), pairs: numbers.of(&words) }
+}
+
+/// Spare memory of any content for a board, its head too: as long as needed, a little longer, or with a part of another
+/// length.
+fn spare(numbers: &mut Numbers, board: Head) -> Lent {
+    let needed = board.lengths();
+    let lengths = Parts {
+        operators: length(numbers, needed.operators).min(PAIRS_MOST),
+        rides: length(numbers, needed.rides).min(PAIRS_MOST),
+        stamps: length(numbers, needed.stamps).min(PAIRS_MOST),
+        index: length(numbers, needed.index).min(INDEX_MOST),
+    };
+    let mut parts = parts(numbers, lengths);
+    if numbers.one_in(4) {
+        let part = numbers.below(4);
+        resize_part(numbers, &mut parts, part);
+    }
+    let head = if numbers.one_in(4) { board } else { any_head(numbers) };
+    Lent { head, parts }
+}
+
+/// A preview. Where it isn't refused, its message is sent to the board now and then, or the spare memory takes the board's
+/// place.
+fn preview<B: Library>(compared: &mut Compared<B>, numbers: &mut Numbers, board: &mut Lent) {
+    let one = message(numbers, board.head);
+    let mut spare = spare(numbers, board.head);
+    let answer = compared.preview(board, one, &mut spare);
+    if answer.code != 0 {
+        return;
+    }
+    match numbers.below(4) {
+        0..=1 => {
+            let sent = compared.message(board, one);
+            compared.totals.same_as_sent((answer, &spare), (sent, board));
+        }
+        2 => {
+            *board = spare;
+            compared.totals.exchanged += 1;
+        }
+        _ => {}
+    }
+}
+
+/// A board that is built, and then queried, peeled, sent messages and previewed; some calls are given damaged input.
+pub fn sequence<B: Library>(compared: &mut Compared<B>, numbers: &mut Numbers, size: Size) {
     let (n, m) = size.numbers(numbers);
     let pairs = table(numbers, n, m);
     let mut board = lent(numbers, n, m, &pairs);
@@ -227,7 +291,7 @@ pub fn sequence<B: Board>(compared: &mut Compared<B>, numbers: &mut Numbers, siz
         if damaged {
             damage(numbers, &mut board);
         }
-        match numbers.below(8) {
+        match numbers.below(10) {
             0 if damaged => {
                 compared.build(&mut board, START);
             }
@@ -250,6 +314,7 @@ pub fn sequence<B: Board>(compared: &mut Compared<B>, numbers: &mut Numbers, siz
                 let one = message(numbers, board.head);
                 compared.message(&mut board, one);
             }
+            7..=8 => preview(compared, numbers, &mut board),
             _ => {
                 let count = numbers.below(size.messages() + 1);
                 let list: Vec<Message> = (0..count).map(|_| message(numbers, board.head)).collect();
@@ -268,7 +333,7 @@ pub fn sequence<B: Board>(compared: &mut Compared<B>, numbers: &mut Numbers, siz
 
 /// Gives messages to a board in this order, by message calls and message lists, now and then by a call that is lent too
 /// short a part.
-fn deliver<B: Board>(compared: &mut Compared<B>, numbers: &mut Numbers, board: &mut Lent, messages: &[Message]) {
+fn deliver<B: Library>(compared: &mut Compared<B>, numbers: &mut Numbers, board: &mut Lent, messages: &[Message]) {
     let mut rest = messages;
     while !rest.is_empty() {
         let count = 1 + numbers.below(rest.len().min(6));
@@ -292,7 +357,7 @@ fn deliver<B: Board>(compared: &mut Compared<B>, numbers: &mut Numbers, board: &
 
 /// Demand 3 on the library itself: the same messages in two orders, one of them with repeats, leave the same board, the
 /// one that is worked out from the latest message of each pair.
-pub fn delivery<B: Board>(compared: &mut Compared<B>, numbers: &mut Numbers, size: Size) {
+pub fn delivery<B: Library>(compared: &mut Compared<B>, numbers: &mut Numbers, size: Size) {
     let (n, m) = size.numbers(numbers);
     let pairs = table(numbers, n, m);
     let mut built = lent(numbers, n, m, &pairs);

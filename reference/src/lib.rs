@@ -29,6 +29,9 @@ pub struct Parts<A, B> {
 /// The parts as a call is lent them.
 pub type Slices<'a> = Parts<&'a mut [u16], &'a mut [u32]>;
 
+/// The parts as a call that only reads them is lent them.
+pub type Views<'a> = Parts<&'a [u16], &'a [u32]>;
+
 /// The parts in memory of their own.
 pub type Vectors = Parts<Vec<u16>, Vec<u32>>;
 
@@ -40,6 +43,20 @@ impl Vectors {
     pub fn lend(&mut self) -> Slices<'_> {
         let Parts { operators, rides, stamps, index } = self;
         Parts { operators, rides, stamps, index }
+    }
+
+    /// Lends every part in its whole length, to be read.
+    pub fn view(&self) -> Views<'_> {
+        let Parts { operators, rides, stamps, index } = self;
+        Parts { operators, rides, stamps, index }
+    }
+}
+
+impl Views<'_> {
+    /// The same words in memory of their own.
+    pub fn copy(&self) -> Vectors {
+        let Parts { operators, rides, stamps, index } = self;
+        Parts { operators: operators.to_vec(), rides: rides.to_vec(), stamps: stamps.to_vec(), index: index.to_vec() }
     }
 }
 
@@ -359,7 +376,7 @@ fn first_short(head: Head, clearances: &Clearances, marks: &[u16], alpha: usize,
     operator.or(ride.map(|r| n + r))
 }
 
-/// The lowest of 1 to 6 that applies to a board that is lent to a message, or 0.
+/// The lowest of 1 to 6 that applies to a board that is lent to a message, a list or a preview, or 0.
 fn board_refusal(head: Head, parts: &Slices, others_short: bool) -> u16 {
     let Parts { operators, rides, stamps, .. } = parts;
     lowest(&[
@@ -421,6 +438,31 @@ pub fn messages(head: &mut Head, parts: &mut Slices, messages: &[Message], answe
         answers[place] = message(head, parts, *one).code;
     }
     0
+}
+
+/// Document 02: the answer, and in the spare memory the words, that the message would give on a copy of the board.
+/// Refused, it leaves the spare memory unchanged.
+pub fn preview(head: Head, parts: &Views, one: Message, spare_head: &mut Head, spare: &mut Slices) -> Answer {
+    let (mut copy_head, mut copy) = (head, parts.copy());
+    let code = board_refusal(head, &copy.lend(), is_short(head, spare));
+    if code != 0 {
+        return Answer { code, differ: 0 };
+    }
+    let answer = message(&mut copy_head, &mut copy.lend(), one);
+    if answer.code == 0 {
+        *spare_head = copy_head;
+        write_board(head, &copy, spare);
+    }
+    answer
+}
+
+/// Writes every word of a board, to the places that each part needs.
+fn write_board(head: Head, board: &Vectors, parts: &mut Slices) {
+    let needed = head.lengths();
+    parts.operators[..needed.operators].copy_from_slice(&board.operators[..needed.operators]);
+    parts.rides[..needed.rides].copy_from_slice(&board.rides[..needed.rides]);
+    parts.stamps[..needed.stamps].copy_from_slice(&board.stamps[..needed.stamps]);
+    parts.index[..needed.index].copy_from_slice(&board.index[..needed.index]);
 }
 
 /// The program `cover`: from its whole input to its whole output.

@@ -4,6 +4,7 @@ use super::samples::{BY_NO_INDEX, LIMITS_FROM_0, NO_INDEX, PAIRS, PEELS_FROM_0, 
 use super::*;
 
 /// Memory for a board, longer by two places in each part than it needs.
+#[derive(Clone, Debug, PartialEq)]
 struct Store {
     head: Head,
     parts: Vectors,
@@ -41,6 +42,10 @@ impl Store {
 
     fn message(&mut self, kind: u16, operator: u16, ride: u16, stamp: u32) -> Answer {
         message(&mut self.head, &mut self.parts.lend(), Message { kind, operator, ride, stamp })
+    }
+
+    fn preview(&self, one: Message, spare: &mut Store) -> Answer {
+        preview(self.head, &self.parts.view(), one, &mut spare.head, &mut spare.parts.lend())
     }
 
     fn row(&self, alpha: usize) -> &[u16] {
@@ -247,13 +252,19 @@ fn cover_is_the_largest() {
     }
 }
 
+/// For each pair of 2 by 2 a grant and a withdrawal of the stamps 4, 5 and 6.
+fn few_messages() -> [Message; 24] {
+    std::array::from_fn(|place| {
+        let i = place as u16;
+        Message { kind: 1 + i % 2, operator: i / 2 % 2, ride: i / 4 % 2, stamp: 4 + i as u32 / 8 }
+    })
+}
+
 /// Demand 3, on a small board with every message of a few: after each list of messages of the kinds 1 and 2 the board
 /// is the one worked out from the latest message of each pair.
 #[test]
 fn delivered_is_the_latest_of_each_pair() {
-    let pool: Vec<Message> = (0..24u16)
-        .map(|i| Message { kind: 1 + i % 2, operator: i / 2 % 2, ride: i / 4 % 2, stamp: 4 + i as u32 / 8 })
-        .collect();
+    let pool = few_messages();
     let start = 5;
     let mut state = 1u32;
     for _ in 0..2000 {
@@ -275,6 +286,216 @@ fn delivered_is_the_latest_of_each_pair() {
             assert_eq!(board.parts.rides, fresh.parts.rides);
             assert_eq!(board.parts.index, fresh.parts.index);
             assert_eq!(board.parts.stamps[..4], latest.map(|entry| entry.0));
+        }
+    }
+}
+
+// Previews
+
+const NO_HEAD: Head = Head { operators: 65535, rides: 65535, pairs: 65535 };
+
+/// On document 01's board, built at 5: a withdrawal that is taken.
+const WITHDRAWN: Message = Message { kind: WITHDRAWAL, operator: 1, ride: 0, stamp: 9 };
+
+/// Spare memory for a board of this head: one word in every place, the head of no board, and so many places more in each
+/// part than are needed.
+fn spare(head: Head, longer: usize, word: u16) -> Store {
+    let Lengths { operators, rides, stamps, index } = head.lengths().map(|needed| needed + longer);
+    let (operators, rides, index) = (vec![word; operators], vec![word; rides], vec![word; index]);
+    Store { head: NO_HEAD, parts: Parts { operators, rides, stamps: vec![word as u32; stamps], index } }
+}
+
+/// Cuts the last place of one of the four parts.
+fn cut(parts: &mut Vectors, part: usize) {
+    match part {
+        0 => drop(parts.operators.pop()),
+        1 => drop(parts.rides.pop()),
+        2 => drop(parts.stamps.pop()),
+        _ => drop(parts.index.pop()),
+    }
+}
+
+/// The spare memory for a preview, as the preview leaves it, with the answer. The board is never written.
+fn previewed(board: &Store, one: Message, mut spare: Store) -> (Answer, Store) {
+    let before = board.clone();
+    let answer = board.preview(one, &mut spare);
+    assert_eq!(*board, before);
+    (answer, spare)
+}
+
+/// For each of 1 to 10 boards and messages that it alone applies to.
+fn refused() -> Vec<(u16, Store, Message)> {
+    let changed = |code, change: fn(&mut Store, &mut Message)| {
+        let (mut board, mut one) = (sample(5), WITHDRAWN);
+        change(&mut board, &mut one);
+        (code, board, one)
+    };
+    vec![
+        (1, Store::new(201, 3, &PAIRS), WITHDRAWN),
+        (2, Store::new(4, 61, &PAIRS), WITHDRAWN),
+        changed(3, |board, _| board.parts.operators.truncate(11)),
+        changed(3, |board, _| board.parts.rides.truncate(11)),
+        changed(3, |board, _| board.parts.stamps.truncate(11)),
+        changed(3, |board, _| board.parts.index.truncate(20)),
+        changed(4, |board, _| board.head.pairs = 13),
+        changed(5, |board, _| board.parts.operators[6] = 4),
+        changed(5, |board, _| board.parts.rides.swap(0, 1)),
+        changed(6, |board, _| board.parts.stamps[0] = 0),
+        changed(7, |_, one| one.kind = 0),
+        changed(7, |_, one| one.kind = 3),
+        changed(8, |_, one| one.operator = 4),
+        changed(8, |_, one| one.ride = 3),
+        changed(9, |_, one| one.stamp = 0),
+        changed(10, |_, one| one.stamp = 4),
+        changed(10, |_, one| (one.kind, one.stamp) = (GRANT, 5)),
+    ]
+}
+
+/// Without (1, 0) ride 0 has operator 0 alone: its level in row 1 is 1, and nobody is in cover (2, 2). In row 2 operator 1
+/// is out, and the others that are in have level 1. 1 and 4 words differ.
+#[test]
+fn previewed_withdrawal() {
+    let board = sample(5);
+    let (answer, spare) = previewed(&board, WITHDRAWN, spare(board.head, 3, 8));
+    assert_eq!(answer, Answer { code: 0, differ: 5 });
+    assert_eq!(spare.head, Head { operators: 4, rides: 3, pairs: 6 });
+    assert_eq!(spare.parts.operators, [0, 0, 1, 2, 2, 3, 0, 0, 0, 0, 0, 0, 8, 8, 8]);
+    assert_eq!(spare.parts.rides, [0, 1, 1, 1, 2, 2, 0, 0, 0, 0, 0, 0, 8, 8, 8]);
+    assert_eq!(spare.parts.stamps, [5, 5, 0, 9, 5, 0, 0, 5, 5, 0, 0, 5, 8, 8, 8]);
+    assert_eq!(spare.row(1), [3, 3, 3, 2, 1, 3, 2]);
+    assert_eq!(spare.row(2), [1, 0, 1, 0, 1, 1, 1]);
+    assert_eq!(spare.row(3), [0; 7]);
+    assert_eq!(spare.parts.index[21..], [8, 8, 8]);
+    assert_eq!((board.query(1, 2).1, spare.query(1, 2).1), (vec![1; 7], vec![1, 1, 1, 1, 0, 1, 1]));
+    assert_eq!((board.query(2, 2).1, spare.query(2, 2).1), (vec![1, 1, 0, 0, 1, 1, 0], vec![0; 7]));
+}
+
+#[test]
+fn previewed_grant() {
+    let board = sample(1);
+    let one = Message { kind: GRANT, operator: 3, ride: 1, stamp: 2 };
+    let (answer, spare) = previewed(&board, one, spare(board.head, 1, 8));
+    assert_eq!(answer, Answer { code: 0, differ: 8 });
+    assert_eq!(spare.head, Head { operators: 4, rides: 3, pairs: 8 });
+    assert_eq!(spare.parts.operators, [0, 0, 1, 1, 2, 2, 3, 3, 0, 0, 0, 0, 8]);
+    assert_eq!(spare.parts.rides, [0, 1, 0, 1, 1, 2, 1, 2, 0, 0, 0, 0, 8]);
+    assert_eq!(spare.parts.stamps, [1, 1, 0, 1, 1, 0, 0, 1, 1, 0, 2, 1, 8]);
+    assert_eq!(spare.row(1), [4, 4, 4, 4, 2, 4, 2]);
+    assert_eq!(spare.row(2), [2; 7]);
+    assert_eq!(spare.row(3), [0; 7]);
+    assert_eq!(spare.parts.index[21..], [8]);
+}
+
+/// A withdrawal of a pair never granted is taken for its stamp: no index word differs, and the words are copied.
+#[test]
+fn previewed_stamp() {
+    let board = sample(5);
+    let one = Message { kind: WITHDRAWAL, operator: 3, ride: 0, stamp: 9 };
+    let mut expected = board.clone();
+    expected.parts.stamps[9] = 9;
+    let mut came = spare(board.head, 2, 7);
+    came.head = Head { operators: 0, rides: 0, pairs: 0 };
+    assert_eq!(previewed(&board, one, came), (Answer { code: 0, differ: 0 }, expected));
+}
+
+/// The words compared are those of the board's index, whatever they are, and not those of the spare one.
+#[test]
+fn previewed_differences() {
+    let mut board = sample(5);
+    let mut came = spare(board.head, 0, 8);
+    (_, came) = previewed(&board, WITHDRAWN, came);
+    let index = came.parts.index.clone();
+    board.parts.index.fill(9);
+    let (answer, spare) = previewed(&board, WITHDRAWN, came);
+    assert_eq!((answer, spare.parts.index), (Answer { code: 0, differ: 21 }, index));
+}
+
+#[test]
+fn refused_previews() {
+    for (code, board, one) in refused() {
+        for longer in [0, 2] {
+            let came = spare(board.head, longer, 8);
+            assert_eq!(previewed(&board, one, came.clone()), (Answer { code, differ: 0 }, came));
+        }
+    }
+}
+
+/// Spare memory of the lengths that are needed is accepted, and a place less is 3: after 1 and 2, and before the others.
+#[test]
+fn short_spare_memory() {
+    let taken = (0, sample(5), WITHDRAWN);
+    assert_eq!(previewed(&taken.1, taken.2, spare(taken.1.head, 0, 8)).0.code, 0);
+    for (code, board, one) in refused().into_iter().chain([taken]) {
+        for part in 0..4 {
+            let mut came = spare(board.head, 0, 8);
+            cut(&mut came.parts, part);
+            let code = if code == 1 || code == 2 { code } else { 3 };
+            assert_eq!(previewed(&board, one, came.clone()), (Answer { code, differ: 0 }, came));
+        }
+    }
+}
+
+#[test]
+fn sizes_of_previews() {
+    for (operators, rides, code) in [(200, 60, 0), (201, 60, 1), (200, 61, 2), (201, 61, 1)] {
+        let board = Store::new(operators, rides, &[(3, 4)]);
+        let one = Message { kind: WITHDRAWAL, operator: 3, ride: 4, stamp: 9 };
+        assert_eq!(previewed(&board, one, spare(board.head, 0, 8)).0.code, code);
+    }
+}
+
+/// Without a ride no place is needed, and without an operator the index alone needs some. There is no pair, so that a
+/// valid kind gets 8.
+#[test]
+fn previews_of_boards_without_pairs() {
+    for (operators, rides) in [(0, 0), (3, 0), (0, 3)] {
+        let mut board = Store::new(operators, rides, &[]);
+        assert_eq!(board.build(5), 0);
+        for (kind, code) in [(GRANT, 8), (WITHDRAWAL, 8), (3, 7)] {
+            let one = Message { kind, operator: 0, ride: 0, stamp: 9 };
+            let mut came = spare(board.head, 0, 8);
+            assert_eq!(previewed(&board, one, came.clone()), (Answer { code, differ: 0 }, came.clone()));
+            if came.parts.index.pop().is_some() {
+                assert_eq!(previewed(&board, one, came.clone()), (Answer { code: 3, differ: 0 }, came));
+            }
+        }
+    }
+}
+
+/// The first places of one part, and from there on those of another.
+fn joined<T: Clone>(first: &[T], other: &[T], places: usize) -> Vec<T> {
+    [&first[..places], &other[places..]].concat()
+}
+
+/// Spare memory that held other words before, with a board in it.
+fn held(board: &Store, came: &Store) -> Store {
+    let (needed, new, old) = (board.head.lengths(), &board.parts, &came.parts);
+    let parts = Parts {
+        operators: joined(&new.operators, &old.operators, needed.operators),
+        rides: joined(&new.rides, &old.rides, needed.rides),
+        stamps: joined(&new.stamps, &old.stamps, needed.stamps),
+        index: joined(&new.index, &old.index, needed.index),
+    };
+    Store { head: board.head, parts }
+}
+
+/// On every table of 2 by 2: whatever the words, the lengths and the head of the spare memory are, a preview that isn't
+/// refused leaves the board in it that the message then leaves, with the same answer.
+#[test]
+fn previews_are_what_the_message_does() {
+    for table in 0..16 {
+        let places = (0..4u16).filter(|place| table >> place & 1 == 1);
+        let pairs: Vec<(u16, u16)> = places.map(|place| (place / 2, place % 2)).collect();
+        for one in few_messages() {
+            let mut board = Store::new(2, 2, &pairs);
+            assert_eq!(board.build(5), 0);
+            let spares = [spare(board.head, 2, 7), Store { head: board.head, ..spare(board.head, 0, 65535) }];
+            let outcomes = spares.clone().map(|came| previewed(&board, one, came));
+            let sent = board.message(one.kind, one.operator, one.ride, one.stamp);
+            for (came, outcome) in spares.into_iter().zip(outcomes) {
+                let left = if sent.code == 0 { held(&board, &came) } else { came };
+                assert_eq!(outcome, (sent, left));
+            }
         }
     }
 }

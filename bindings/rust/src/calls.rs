@@ -1,4 +1,4 @@
-//! The five calls over slices. The library's calls accept every argument: they check what they use, and refuse. What
+//! The six calls over slices. The library's calls accept every argument: they check what they use, and refuse. What
 //! they ask of a C program, that a part is as long as it says, aligned and apart from the others, a Rust slice is by its
 //! type. So no call here is `unsafe`.
 
@@ -188,4 +188,50 @@ pub fn messages<'a>(
         )
     })?;
     Ok(Answers::new(&answers[..messages.len()]))
+}
+
+/// Preview: what a message would do. Where it would be taken, the spare memory gets every word that [`message`] would
+/// leave on a copy of the board, and the result is the number of index words that differ before and after. The spare
+/// parts need the lengths that the board needs; what they and the spare head hold does not matter.
+///
+/// Refuses as the message would, and with 3 where a spare part is too short. All spare memory is then as it was.
+#[allow(clippy::too_many_arguments)]
+pub fn preview(
+    head: Head,
+    operators: &[u16],
+    rides: &[u16],
+    stamps: &[u32],
+    index: &[u16],
+    message: Message,
+    spare_head: &mut Head,
+    spare_operators: &mut [u16],
+    spare_rides: &mut [u16],
+    spare_stamps: &mut [u32],
+    spare_index: &mut [u16],
+) -> Result<u16, Refusal> {
+    let answer = unsafe {
+        exported::board_preview(
+            head,
+            operators.as_ptr(),
+            operators.len(),
+            rides.as_ptr(),
+            rides.len(),
+            stamps.as_ptr(),
+            stamps.len(),
+            index.as_ptr(),
+            index.len(),
+            message,
+            spare_head,
+            spare_operators.as_mut_ptr(),
+            spare_operators.len(),
+            spare_rides.as_mut_ptr(),
+            spare_rides.len(),
+            spare_stamps.as_mut_ptr(),
+            spare_stamps.len(),
+            spare_index.as_mut_ptr(),
+            spare_index.len(),
+        )
+    };
+    Refusal::check(answer.code)?;
+    Ok(answer.differ)
 }

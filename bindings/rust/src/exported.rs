@@ -31,7 +31,7 @@ pub struct Peeled {
     pub steps: u16,
 }
 
-/// What a message answers. Beside a refusal the count is 0.
+/// What a message or a preview answers. Beside a refusal the count is 0.
 #[derive(Clone, Copy, Debug, PartialEq, Eq)]
 #[repr(C)]
 pub struct Answer {
@@ -111,4 +111,27 @@ extern "C" {
         answers: *mut u16,
         answers_length: usize,
     ) -> u16;
+
+    /// Preview; [`preview`](crate::preview) over slices.
+    pub fn board_preview(
+        head: Head,
+        operators: *const u16,
+        operators_length: usize,
+        rides: *const u16,
+        rides_length: usize,
+        stamps: *const u32,
+        stamps_length: usize,
+        index: *const u16,
+        index_length: usize,
+        message: Message,
+        spare_head: *mut Head,
+        spare_operators: *mut u16,
+        spare_operators_length: usize,
+        spare_rides: *mut u16,
+        spare_rides_length: usize,
+        spare_stamps: *mut u32,
+        spare_stamps_length: usize,
+        spare_index: *mut u16,
+        spare_index_length: usize,
+    ) -> Answer;
 }

@@ -1,6 +1,6 @@
 //! A board over memory that the caller lends for as long as the board lives.
 
-use crate::{build, index_places, mark_places, message, messages, pair_places, peel, query};
+use crate::{build, index_places, mark_places, message, messages, pair_places, peel, preview, query};
 use crate::{Answers, Counts, Head, Message, Peeled, Refusal, OPERATORS_MOST, RIDES_MOST};
 
 const PAIR_PLACES: usize = pair_places(OPERATORS_MOST, RIDES_MOST);
@@ -85,8 +85,8 @@ impl Default for Memory {
     }
 }
 
-/// A board in lent memory. While it lives its own calls alone write that memory, so that of 1 to 6 only a list of the
-/// caller's that is too short (3) refuses a call.
+/// A board in lent memory. While it lives its own calls alone write that memory, so that of 1 to 6 only an argument of
+/// the caller's that is too short (3) refuses a call: marks, an answer list or spare memory.
 #[derive(Debug)]
 pub struct Board<'m> {
     head: Head,
@@ -188,6 +188,41 @@ impl<'m> Board<'m> {
     pub fn messages<'a>(&mut self, list: &[Message], answers: &'a mut [u16]) -> Result<Answers<'a>, Refusal> {
         let parts = &mut self.parts;
         messages(&mut self.head, parts.operators, parts.rides, parts.stamps, parts.index, list, answers)
+    }
+
+    /// What a message would do: the number of index words that would differ, and the board as the message would leave it,
+    /// in spare memory as long as this board needs. This board stays as it is. What the spare memory holds does not
+    /// matter.
+    ///
+    /// Refuses as [`message`](Board::message) would, and with 3 where the spare memory is too short. A refusal leaves
+    /// every word of the spare memory.
+    ///
+    /// ```
+    /// use board::{Board, Memory, Message};
+    ///
+    /// let (mut memory, mut spare) = (Box::new(Memory::new()), Box::new(Memory::new()));
+    /// let board = Board::build(memory.parts(), 2, 1, &[(0, 0), (1, 0)], 10)?;
+    /// let (_, without) = board.preview(Message::withdrawal(0, 0, 20), spare.parts())?;
+    /// assert!(board.cover(1, 2)?.has_ride(0));
+    /// assert!(!without.cover(1, 2)?.has_ride(0));
+    /// # Ok::<(), board::Refusal>(())
+    /// ```
+    pub fn preview<'s>(&self, one: Message, spare: Parts<'s>) -> Result<(u16, Board<'s>), Refusal> {
+        let (parts, mut head) = (&self.parts, Head::default());
+        let differ = preview(
+            self.head,
+            parts.operators,
+            parts.rides,
+            parts.stamps,
+            parts.index,
+            one,
+            &mut head,
+            spare.operators,
+            spare.rides,
+            spare.stamps,
+            spare.index,
+        )?;
+        Ok((differ, Board { head, parts: spare }))
     }
 }
 

@@ -1,4 +1,4 @@
-//! The crew cover board of document 01 for Rust programs: the five calls of its static library over slices, and a
+//! The crew cover board of document 01 for Rust programs: the six calls of its static library over slices, and a
 //! [`Board`] over memory that the caller lends. Nothing here allocates, and no user of it writes `unsafe`.
 //!
 //! ```
@@ -22,7 +22,7 @@ mod held;
 mod refusal;
 
 pub use answers::Answers;
-pub use calls::{build, message, messages, peel, query};
+pub use calls::{build, message, messages, peel, preview, query};
 pub use calls::{Counts, Head, Message, Peeled};
 pub use calls::{GRANT, WITHDRAWAL};
 pub use held::{Board, Cover, Memory, Parts};

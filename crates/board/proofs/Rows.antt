@@ -10,10 +10,13 @@ use denote.Struct.Laws as LL
 use Rattle.model.specs.declared.Head.{Head}
 use Rattle.model.specs.declared.Answer.{Answer}
 use Rattle.taking.specs.declared.Delivered.{Delivered}
+use Rattle.previews.specs.declared.Previewed.{Previewed}
 use Rattle.model.proofs.Answer as Q
 use Rattle.model.proofs.Answer.Laws as Q′
 use Rattle.taking.proofs.Delivered as D
 use Rattle.taking.proofs.Delivered.Laws as D′
+use Rattle.previews.proofs.Previewed as P
+use Rattle.previews.proofs.Previewed.Laws as P′
 use Rattle.model.proofs.Head as T
 use Rattle.model.proofs.Head.Laws as T′
 use Rattle.model.proofs.Message as N
@@ -28,6 +31,9 @@ An = Q.the-row
 
 abbrev pub Dl : RattleType
 Dl = D.the-row
+
+abbrev pub Pv : RattleType
+Pv = P.the-row
 
 abbrev pub Hd : RattleType
 Hd = T.the-row
@@ -68,3 +74,14 @@ answer-made r f = LL.owes Q.the-type Q′.the-laws (answer-of r) ((refl, f .0), 
 -- what a covered function returned, at its own machine value
 pub delivered-made : (r : Delivered) (vs : List Val) → Is Dl r vs → Is Dl r (D′.lowered r ∷ [])
 delivered-made r vs g = LL.owes D.the-type D′.the-laws r (LL.owed D.the-type D′.the-laws r vs g)
+
+-- what a preview returned, its answer and its head, each at its own machine value
+module _ (r : Previewed) (vs : List Val) (g : Is Pv r vs) where
+  pub previewed-made : Is Pv r (P′.lowered r ∷ [])
+  previewed-made = LL.owes P.the-type P′.the-laws r (LL.owed P.the-type P′.the-laws r vs g)
+
+  pub previewed-answer : Is An (r .answer) (Q′.lowered (r .answer) ∷ [])
+  previewed-answer = LL.owed P.the-type P′.the-laws r vs g .0
+
+  pub previewed-head : Is Hd (r .head) (T′.lowered (r .head) ∷ [])
+  previewed-head = LL.owed P.the-type P′.the-laws r vs g .1 .0

@@ -5,6 +5,7 @@ ghost use Rattle.model.specs.Calls.{board-build, board-query, board-peel};
 ghost use Rattle.model.specs.Outcome.{queried, peel-left, build-left};
 
 pub mod message; // message.rt: message and message list
+pub mod preview; // preview.rt: preview
 
 use model::Counts;
 use model::Head;

@@ -8,18 +8,18 @@ use Prim.Native.Nat.{ℕ, zero, suc, _≤_, _<_}
 use native.Mathlib.Omega.{arith}
 use native.Mathlib.Decide.{decLt}
 use lib.ListN.{getD, take}
-use lib.Seq.{take-at, getD-take}
+use lib.Seq.{getD-take}
 use Rattle.model.specs.declared.Head.{Head}
 use Rattle.model.specs.declared.Message.{Message}
 use Rattle.model.specs.Graph.{Graph}
-use Rattle.model.specs.Layout.{Part, Operators, Rides, Board, places, over, listed, board-graph}
-use Rattle.model.specs.Contents.{Slot, Pair, slot, entry, words, board-of}
+use Rattle.model.specs.Layout.{Operators, Rides, Board, listed, board-graph}
+use Rattle.model.specs.Contents.{Slot, Pair, slot, entry, board-of}
 use Rattle.model.specs.Refusal.{build-refusal}
 use Rattle.model.specs.Calls.{start-contents, built, board-build}
 use Rattle.model.proofs.Count.{test-true, test-false}
 use Rattle.model.proofs.Pairs.{listed-place, place-listed}
 use Rattle.model.proofs.Refusal.{AcceptedTable, Valid, build-none}
-use Rattle.model.proofs.Contents.{pair-equal, Within, length-words, board-of-same}
+use Rattle.model.proofs.Contents.{pair-equal, Within, board-of-same, exact-onto}
 use Rattle.delivery.specs.Calls.{built-board}
 use Rattle.delivery.specs.Book.{grants, latest, said, written}
 use Rattle.delivery.proofs.Latest.{Is, latest-is, AllValid}
@@ -97,9 +97,7 @@ module _ (b : Board) (start : ℕ) (accepted : build-refusal b start ≡ 0) wher
 
   built-of : built-board b start ≡ board-of h (start-contents g start)
   unfolding built-board board-build built
-  built-of =
-      let each : (p : Part) → take (places h p) (over (words h (start-contents g start) p) (b .part p)) ≡ words h (start-contents g start) p = λ p. take-at (words h (start-contents g start) p) _ (places h p) (length-words h (start-contents g start) p) in
-      rw (accepted, board-build) (λ j. record { head = board-of h (start-contents g start) .head; part = λ p. each p j })
+  built-of = rw (accepted, board-build) (exact-onto h (start-contents g start) (b .part))
 
   pub built-written : built-board b start ≡ written h start-grants
   unfolding written

@@ -16,6 +16,7 @@ use Rattle.model.proofs.Peel.{peel-laws}
 use Rattle.model.proofs.Query.{zero-is-no-limit, query-is-core}
 use Rattle.model.proofs.Contents.{extend, graph-extend, index-words}
 use Rattle.model.proofs.EndToEnd.{index-then-query, build-then-query, peel-none, peel-is-core}
+use Rattle.model.proofs.Preview.{preview-then-query}
 use Rattle.delivery.specs.Book.{book, latest, said, written}
 use Rattle.delivery.specs.Core.{CallsThenIndex, CallsThenQuery, CallsThenPeel, Demand2}
 use Rattle.delivery.proofs.Latest.{AllValid}
@@ -77,6 +78,7 @@ demand-2 =
       query-is-core = query-is-core;
       index-then-query = index-then-query;
       build-then-query = build-then-query;
+      preview-then-query = preview-then-query;
       peel-is-core = peel-is-core;
       calls-then-index = calls-then-index;
       calls-then-query = calls-then-query;

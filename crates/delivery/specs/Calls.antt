@@ -4,7 +4,7 @@ use mathlib.Core.List.{List, [], _∷_, _++_}
 use Prim.Native.Nat.{ℕ, zero, suc}
 use lib.ListN.{length, take}
 use Rattle.model.specs.declared.Message.{Message}
-use Rattle.model.specs.Layout.{Part, Board, places, over}
+use Rattle.model.specs.Layout.{Part, Board, over, exact}
 use Rattle.model.specs.Refusal.{list-refusal}
 use Rattle.model.specs.Calls.{board-build}
 use Rattle.model.specs.Message.{board-message, board-messages}
@@ -57,9 +57,7 @@ run b (c ∷ cs) = run (after b c) cs
 
 -- the board that a build left, to the lengths under Layout
 unfoldable pub built-board : Board → ℕ → Board
-built-board b start =
-    let left = board-build b start .board in
-    record { head = left .head; part = λ p. take (places (b .head) p) (left .part p) }
+built-board b start = exact (board-build b start .board)
 
 -- the number that a call returns
 unfoldable pub returned : Board → Call → ℕ

@@ -8,7 +8,7 @@ use Rattle.model.specs.Graph.{index-of}
 use Rattle.model.specs.Layout.{Operators, Rides, Index, Board, mark-places, board-graph}
 use Rattle.model.specs.Refusal.{build-refusal}
 use Rattle.model.specs.Calls.{board-query, board-peel}
-use Rattle.model.specs.Demand.{AllOnes, PeelLaws, CoverLaws, LevelLaws, ZeroIsNoLimit, QueryIsCore, IsCore, IndexThenQuery, BuildThenQuery, IsPeeledCore, PeelIsCore}
+use Rattle.model.specs.Demand.{AllOnes, PeelLaws, CoverLaws, LevelLaws, ZeroIsNoLimit, QueryIsCore, IsCore, IndexThenQuery, BuildThenQuery, PreviewThenQuery, IsPeeledCore, PeelIsCore}
 use Rattle.delivery.specs.Calls.{Call, run, built-board}
 
 -- the index that a list of calls left is that of the pairs that the board then lists
@@ -49,6 +49,7 @@ pub record Demand2 : Type 0 where
   -- of the calls
   pub index-then-query : IndexThenQuery
   pub build-then-query : BuildThenQuery
+  pub preview-then-query : PreviewThenQuery
   pub peel-is-core : PeelIsCore
   -- from end to end
   pub calls-then-index : CallsThenIndex

@@ -1,5 +1,5 @@
 -- 6 to 10: the tests of a board's stamps and of a message, and their place behind 1 to 5. Assumes nothing.
-use mathlib.Core.Path.{_≡_, refl, sym, _∙_, subst}
+use mathlib.Core.Path.{_≡_, sym, ap, _∙_, subst}
 use mathlib.Core.Logic.{_≢_}
 use mathlib.Core.Bool.{Bool, true, false, _||_}
 use mathlib.Core.List.{List, [], _∷_, _++_}
@@ -10,11 +10,11 @@ use borrow.Author.Tests.{eq-eqb}
 use lib.ListN.{length}
 use Rattle.model.specs.declared.Head.{Head}
 use Rattle.model.specs.declared.Message.{Message}
-use Rattle.model.specs.Layout.{Operators, Rides, Stamps, Board, pair-places}
-use Rattle.model.specs.Refusal.{refused-1, refused-2, refused-3, refused-4, refused-5, refused-6, refused-7, refused-8, refused-9, refused-10, board-short, first-number, table-cases, board-cases, message-cases, message-refusal, list-refusal}
+use Rattle.model.specs.Layout.{Operators, Rides, Parts, Board, pair-places, of-parts}
+use Rattle.model.specs.Refusal.{refused-1, refused-2, refused-3, refused-4, refused-5, refused-6, refused-7, refused-8, refused-9, refused-10, board-short, first-number, table-cases, board-cases, message-cases, message-refusal, preview-refusal, list-refusal}
 use Rattle.model.proofs.Count.{or-left, or-right, or-cases}
 use Rattle.model.proofs.Chain.{first-nil, first-here, first-skip, first-none, enough, Positive, first-front, first-behind}
-use Rattle.model.proofs.Refusal.{table-none, Valid, valid-kind, valid-pair, valid-stamp, tests-valid}
+use Rattle.model.proofs.Refusal.{Valid, valid-kind, valid-pair, valid-stamp, tests-valid}
 use Rattle.pairs.specs.Accepted.{AcceptedPairs}
 use Rattle.refusals.proofs.Chain.{table-first, table-rest}
 
@@ -34,11 +34,6 @@ table-accepted h short operators rides cs e a b =
       rides-long = omega arith;
       ordered = n5 .0;
     }
-
-pub board-accepted : (b : Board) (cs : List (ℕ × Bool)) → first-number (table-cases (b .head) (board-short b) (b .part Operators) (b .part Rides) ++ cs) ≡ 0 → AcceptedPairs (b .head) (b .part Operators) (b .part Rides) × (pair-places (b .head) ≤ length (b .part Stamps))
-board-accepted b cs e =
-    let t = table-none b (board-short b) cs (λ s. s) e in
-    (table-accepted (b .head) (board-short b) (b .part Operators) (b .part Rides) cs e (t .0 .long Operators) (t .0 .long Rides), t .0 .long Stamps)
 
 -- 1 to 6, as the code goes through them
 module _ (b : Board) (short : Bool) (k : ℕ) (e : k ≡ first-number (table-cases (b .head) short (b .part Operators) (b .part Rides))) where
@@ -116,17 +111,27 @@ module _ (b : Board) (m : Message) where
       pub entry-0 : refused-10 b m ≡ false → 0 ≡ first-number (message-cases b m)
       entry-0 t = sym (first-skip 10 (refused-10 b m) [] (λ x. subst T t x) ∙ first-nil) ∙ last-test
 
-  positive-6 : Positive (board-cases b (board-short b))
-  positive-6 = (omega arith, (omega arith, (omega arith, (omega arith, (omega arith, (omega arith, tt))))))
+  module _ (short : Bool) where
+    positive-6 : Positive (board-cases b short)
+    positive-6 = (omega arith, (omega arith, (omega arith, (omega arith, (omega arith, (omega arith, tt))))))
 
-  pub message-board : (k : ℕ) → k ≡ first-number (board-cases b (board-short b)) → k ≢ 0 → k ≡ message-refusal b m
+    pub on-board : (k : ℕ) → k ≡ first-number (board-cases b short) → k ≢ 0 → k ≡ first-number (board-cases b short ++ message-cases b m)
+    on-board k e n = e ∙ sym (first-front (message-cases b m) (board-cases b short) positive-6 (λ z. n (e ∙ z)))
+
+    pub on-entry : (k : ℕ) → k ≡ first-number (board-cases b short) → k ≡ 0 → first-number (message-cases b m) ≡ first-number (board-cases b short ++ message-cases b m)
+    on-entry k e z = sym (first-behind (message-cases b m) (board-cases b short) positive-6 (sym e ∙ z))
+
+-- ---- the numbers of a call, with its own 3
+
+module _ (b : Board) (short : Bool) where
+  pub message-of : (m : Message) → short ≡ board-short b → first-number (board-cases b short ++ message-cases b m) ≡ message-refusal b m
   unfolding message-refusal
-  message-board k e n = e ∙ sym (first-front (message-cases b m) (board-cases b (board-short b)) positive-6 (λ z. n (e ∙ z)))
+  message-of m e = ap (λ (t : Bool). first-number (board-cases b t ++ message-cases b m)) e
 
-  pub message-entry : (k : ℕ) → k ≡ first-number (board-cases b (board-short b)) → k ≡ 0 → first-number (message-cases b m) ≡ message-refusal b m
-  unfolding message-refusal
-  message-entry k e z = sym (first-behind (message-cases b m) (board-cases b (board-short b)) positive-6 (sym e ∙ z))
+  pub preview-of : (m : Message) (spare : Parts) → short ≡ (board-short b || board-short (of-parts (b .head) spare)) → first-number (board-cases b short ++ message-cases b m) ≡ preview-refusal b m spare
+  unfolding preview-refusal
+  preview-of m spare e = ap (λ (t : Bool). first-number (board-cases b t ++ message-cases b m)) e
 
-pub list-board : (b : Board) (messages : ℕ) (answers : List ℕ) → first-number (board-cases b (board-short b || refused-3 messages answers)) ≡ list-refusal b messages answers
-unfolding list-refusal
-list-board b messages answers = refl
+  pub list-of : (messages : ℕ) (answers : List ℕ) → short ≡ (board-short b || refused-3 messages answers) → first-number (board-cases b short) ≡ list-refusal b messages answers
+  unfolding list-refusal
+  list-of messages answers e = ap (λ (t : Bool). first-number (board-cases b t)) e

@@ -1,12 +1,12 @@
-// Document 01's numbers of a message and of a message list: the first that applies, 0 if none does.
+// Document 01's numbers of a message, a preview and a message list: the first that applies, 0 if none does.
 ghost use mathlib.Core.Path.{_≡_};
 ghost use mathlib.Core.Bool.{false, _||_};
-ghost use mathlib.Core.List.{List, [], _∷_};
+ghost use mathlib.Core.List.{List, [], _∷_, _++_};
 ghost use Prim.Native.Nat.{ℕ, _≤_};
 ghost use lib.ListN.{length};
-ghost use Rattle.model.specs.Layout.{lent, pair-places};
+ghost use Rattle.model.specs.Layout.{parts, lent, pair-places};
 ghost use Rattle.model.specs.Refusal.{refused-3, refused-7, refused-8, refused-9, board-short, first-number, board-cases, message-cases};
-ghost use Rattle.model.specs.Refusal.{message-refusal, list-refusal};
+ghost use Rattle.model.specs.Refusal.{message-refusal, preview-refusal, list-refusal};
 ghost use Rattle.pairs.specs.Accepted.{AcceptedPairs};
 use model::Head;
 use model::Message;
@@ -80,7 +80,33 @@ pub fn entry_number(
     0
 }
 
-// 1 to 10.
+// 1 to 10 of a message on a board; short tells whether a lent part is too short.
+fn number_on(
+    head: Head,
+    message: Message,
+    short: bool,
+    operators: &[u16],
+    rides: &[u16],
+    stamps: &[u32],
+) -> u16
+    requires { ⌜
+        (short ≡ false → (pair-places head ≤ length (now operators)) × (pair-places head ≤ length (now rides)) ×
+        (pair-places head ≤ length (now stamps)))
+        ⌝ }
+    ensures { λ r. ⌜
+        ((index : List ℕ) → r ≡ first-number
+        (board-cases (lent head (now (operators .entry)) (now (rides .entry)) (now (stamps .entry)) index) short ++ message-cases
+        (lent head (now (operators .entry)) (now (rides .entry)) (now (stamps .entry)) index) message))
+        ⌝ }
+{
+    let number = board_number(head, short, operators, rides, stamps);
+    if number != 0 {
+        return number;
+    }
+    entry_number(head, message, operators, rides, stamps)
+}
+
+// 1 to 10 of a message.
 pub fn message_number(
     head: Head,
     message: Message,
@@ -92,11 +118,71 @@ pub fn message_number(
     ensures { λ r. ⌜ r ≡ message-refusal (lent head (now (operators .entry)) (now (rides .entry)) (now (stamps .entry)) (now (index .entry))) message ⌝ }
 {
     let short = short_board(head, operators, rides, stamps, index);
-    let number = board_number(head, short, operators, rides, stamps);
-    if number != 0 {
-        return number;
+    number_on(head, message, short, operators, rides, stamps)
+}
+
+// Whether a part of a board, or one of the spare memory for it, is too short.
+fn short_preview(
+    head: Head,
+    operators: &[u16],
+    rides: &[u16],
+    stamps: &[u32],
+    index: &[u16],
+    spare_operators: &[u16],
+    spare_rides: &[u16],
+    spare_stamps: &[u32],
+    spare_index: &[u16],
+) -> bool
+    ensures { λ r. ⌜
+        r
+        ≡
+        (board-short (lent head (now (operators .entry)) (now (rides .entry)) (now (stamps .entry)) (now (index .entry))) || board-short
+        (lent head (now («spare_operators» .entry)) (now («spare_rides» .entry)) (now («spare_stamps» .entry)) (now («spare_index» .entry))))
+        ⌝ }
+{
+    if short_board(head, operators, rides, stamps, index) {
+        return true;
     }
-    entry_number(head, message, operators, rides, stamps)
+    short_board(
+        head,
+        spare_operators,
+        spare_rides,
+        spare_stamps,
+        spare_index,
+    )
+}
+
+// 1 to 10 of a preview.
+pub fn preview_number(
+    head: Head,
+    message: Message,
+    operators: &[u16],
+    rides: &[u16],
+    stamps: &[u32],
+    index: &[u16],
+    spare_operators: &[u16],
+    spare_rides: &[u16],
+    spare_stamps: &[u32],
+    spare_index: &[u16],
+) -> u16
+    ensures { λ r. ⌜
+        r
+        ≡ preview-refusal (lent head (now (operators .entry)) (now (rides .entry)) (now (stamps .entry)) (now (index .entry))) message
+        (parts (now («spare_operators» .entry)) (now («spare_rides» .entry)) (now («spare_stamps» .entry)) (now («spare_index» .entry)))
+        ⌝ }
+{
+    let short = short_preview(
+        head,
+        operators,
+        rides,
+        stamps,
+        index,
+        spare_operators,
+        spare_rides,
+        spare_stamps,
+        spare_index,
+    );
+    number_on(head, message, short, operators, rides, stamps)
 }
 
 // Whether a part of a board is too short, or the answer list is shorter than the message list.

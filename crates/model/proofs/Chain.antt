@@ -1,5 +1,5 @@
 -- Laws of a chain of numbers: the first that applies, in the order of the list. Assumes nothing.
-use mathlib.Core.Path.{_≡_, refl}
+use mathlib.Core.Path.{_≡_, refl, sym, _∙_, subst}
 use mathlib.Core.Logic.{_≢_}
 use mathlib.Core.Bool.{Bool, true, false}
 use mathlib.Core.List.{List, [], _∷_, _++_}
@@ -23,6 +23,13 @@ pub first-skip : (k : ℕ) (t : Bool) (cs : List (ℕ × Bool)) → (T t → ⊥
 unfolding first-number
 first-skip k true cs n = absurd (n tt)
 first-skip k false cs n = refl
+
+-- two chains are alike where the first tests are, and the others where the first does not apply
+pub first-same : (k : ℕ) (t t′ : Bool) (cs cs′ : List (ℕ × Bool)) → t ≡ t′ → ((T t → ⊥) → first-number cs ≡ first-number cs′) → first-number ((k, t) ∷ cs) ≡ first-number ((k, t′) ∷ cs′)
+first-same k t t′ cs cs′ e rest =
+    by-test t
+    (λ a. first-here k t cs a ∙ sym (first-here k t′ cs′ (subst T e a)))
+    (λ n. first-skip k t cs n ∙ rest n ∙ sym (first-skip k t′ cs′ (λ a. n (subst T (sym e) a))))
 
 -- where none applies, the first does not, and none of the others
 pub first-none : (k : ℕ) (t : Bool) (cs : List (ℕ × Bool)) → first-number ((suc k, t) ∷ cs) ≡ 0 → (T t → ⊥) × (first-number cs ≡ 0)

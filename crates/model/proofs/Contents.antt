@@ -6,12 +6,12 @@ use Prim.Native.Nat.{ℕ, suc, _+_, _*_, _/_, _%_, _≤_, _<_}
 use native.Mathlib.Omega.{arith}
 use lib.Dec.{T, eqb, eqb→eq, eqb-refl}
 use lib.Arith.{digits-lt}
-use lib.ListN.{length, getD, length-append, List·getD-append}
-use lib.Seq.{drop-at}
+use lib.ListN.{length, getD, take, length-append, List·getD-append}
+use lib.Seq.{take-at, drop-at}
 use Rattle.model.specs.declared.Head.{Head}
 use Rattle.model.specs.Count.{rows}
 use Rattle.model.specs.Graph.{nodes, level, index-of}
-use Rattle.model.specs.Layout.{Part, Operators, Rides, Stamps, Index, Parts, Board, pair-places, places, over, onto, sized, board-graph}
+use Rattle.model.specs.Layout.{Part, Operators, Rides, Stamps, Index, Parts, Board, pair-places, places, over, onto, exact, sized, board-graph}
 use Rattle.model.specs.Contents.{Slot, Pair, same-slot, Entry, Contents, put, given, contents, stamp-place, padded, words, board-of}
 use Rattle.model.proofs.Count.{by-test, test-true, test-false, and-left, and-right, and-both, length-rows, getD-rows, rows-ext}
 use Rattle.model.proofs.Level.{index-same}
@@ -145,4 +145,10 @@ board-of-sizes h s s′ =
 pub onto-extend : (h : Head) (s s′ : Contents) (more : Parts) → onto (board-of h s) (extend (board-of h s′) more .part) ≡ extend (board-of h s) more
 onto-extend h s s′ more =
     let each : (p : Part) → over (words h s p) (words h s′ p ++ more p) ≡ words h s p ++ more p = λ p. ap (λ (l : List ℕ). words h s p ++ l) (drop-at (words h s′ p) (more p) (length (words h s p)) (length-words h s′ p ∙ sym (length-words h s p))) in
+    λ j. record { head = board-of h s .head; part = λ p. each p j }
+
+-- a board laid over any words is the board, to the lengths under Layout
+pub exact-onto : (h : Head) (s : Contents) (old : Parts) → exact (onto (board-of h s) old) ≡ board-of h s
+exact-onto h s old =
+    let each : (p : Part) → take (places (board-of h s .head) p) (over (words h s p) (old p)) ≡ words h s p = λ p. take-at (words h s p) _ (places (board-of h s .head) p) (length-words h s p ∙ sym (places-of h s p)) in
     λ j. record { head = board-of h s .head; part = λ p. each p j }

@@ -13,13 +13,14 @@ use lib.Seq.{getD-set-same, getD-set-other}
 use Rattle.model.specs.declared.Head.{Head}
 use Rattle.model.specs.declared.Message.{Message}
 use Rattle.model.specs.Layout.{Board}
-use Rattle.model.specs.Refusal.{first-number, build-refusal, query-refusal, message-refusal, list-refusal, peel-refusal}
+use Rattle.model.specs.Refusal.{first-number, build-refusal, query-refusal, message-refusal, preview-refusal, list-refusal, peel-refusal}
 use Rattle.model.specs.Calls.{counts, board-build, board-query, peeled, board-peel}
 use Rattle.model.specs.Message.{ListOutcome, in-order, board-message, board-messages}
 use Rattle.model.specs.Demand.{NeverEleven}
 use Rattle.model.proofs.Count.{by-test, and-left, and-right}
 use Rattle.model.proofs.Chain.{first-here, first-skip}
 use Rattle.model.proofs.Taken.{message-code, list-taken, list-refused}
+use Rattle.model.proofs.Preview.{preview-code}
 
 -- no number of a list is this one: a test that is computed, for the numbers are written out
 abbrev pub lacks : ℕ → List (ℕ × Bool) → Bool
@@ -96,13 +97,14 @@ list-never b ms answers i z l e =
     (subst (λ (o : ListOutcome). getD (o .answers) i 0 ≡ 11) (list-taken b ms answers none) e))
 
 pub never-eleven : NeverEleven
-unfolding build-refusal query-refusal peel-refusal list-refusal
+unfolding build-refusal query-refusal peel-refusal preview-refusal list-refusal
 never-eleven =
     record {
       build = λ b start e. first-lacks 11 (λ q. omega arith) _ tt (sym (build-code b start _ refl) ∙ e);
       query = λ h index α β marks e. first-lacks 11 (λ q. omega arith) _ tt (sym (query-code h index α β marks _ refl) ∙ e);
       peel = λ h operators rides marks α β allowed e. first-lacks 11 (λ q. omega arith) _ tt (sym (peel-code h operators rides marks α β allowed _ refl) ∙ e);
       message = message-never;
+      preview = λ b m spare e. first-lacks 11 (λ q. omega arith) _ tt (sym (preview-code b m spare) ∙ e);
       messages = λ b ms answers e. first-lacks 11 (λ q. omega arith) _ tt (sym (list-code b ms answers _ refl) ∙ e);
       answers = list-never;
     }

@@ -13,6 +13,8 @@ pub mod Parts
 pub mod Refusal
 pub mod Contents
 pub mod Taken
+pub mod Exact
 pub mod EndToEnd
+pub mod Preview
 pub mod Eleven
 pub mod Samples

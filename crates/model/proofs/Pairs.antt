@@ -260,12 +260,16 @@ module _ (n : ℕ) (operators rides : List ℕ) (u v : ℕ) where
   unfolding listed
   place-listed i h d e = some-holds (pair-at operators rides u v) n i h (pair-stands operators rides u v i d e)
 
+-- the clearance graph depends on the first words of the pair arrays alone, as many as pairs
+pub graph-same : (h : Head) (operators rides operators′ rides′ : List ℕ) → ((i : ℕ) → i < h .pairs → getD operators i 0 ≡ getD operators′ i 0) → ((i : ℕ) → i < h .pairs → getD rides i 0 ≡ getD rides′ i 0) → graph h operators rides ≡ graph h operators′ rides′
+unfolding listed
+graph-same h operators rides operators′ rides′ p q = λ j.
+    sized h
+    (λ u v. some-ext (pair-at operators rides u v) (pair-at operators′ rides′ u v) (h .pairs) (λ i k. ap₂ (λ (x y : ℕ). eqb x u && eqb y v) (p i k) (q i k)) j)
+
 -- what lies behind the pair arrays doesn't matter
 pub graph-append : (h : Head) (operators rides more more′ : List ℕ) → h .pairs ≤ length operators → h .pairs ≤ length rides → graph h (operators ++ more) (rides ++ more′) ≡ graph h operators rides
-unfolding listed
-graph-append h operators rides more more′ l l′ = λ j.
-    sized h
-    (λ u v. some-ext (pair-at (operators ++ more) (rides ++ more′) u v) (pair-at operators rides u v) (h .pairs) (λ i k. ap₂ (λ (x y : ℕ). eqb x u && eqb y v) (List·getD-append operators more 0 i (omega arith)) (List·getD-append rides more′ 0 i (omega arith))) j)
+graph-append h operators rides more more′ l l′ = graph-same h (operators ++ more) (rides ++ more′) operators rides (λ i k. List·getD-append operators more 0 i (omega arith)) (λ i k. List·getD-append rides more′ 0 i (omega arith))
 
 -- ---- arrays that hold the pairs of g are its enumeration
 

@@ -1,7 +1,7 @@
 -- What documents 000, 01 and 02 say of the definitions, as statements for every graph, limit and starting set: proofs/ proves each record.
 use mathlib.Core.Path.{_≡_}
 use mathlib.Core.Logic.{_↔_, _≢_}
-use mathlib.Core.Bool.{Bool, false, _&&_, not}
+use mathlib.Core.Bool.{Bool, true, false, _&&_, not}
 use mathlib.Core.List.{List, [], _∷_, _++_}
 use Prim.Native.Nat.{ℕ, _+_, _-_, _*_, _≤_, _<_, max}
 use lib.Dec.{T, leb}
@@ -10,10 +10,10 @@ use Rattle.model.specs.declared.Head.{Head}
 use Rattle.model.specs.declared.Message.{Message}
 use Rattle.model.specs.Count.{count, some}
 use Rattle.model.specs.Graph.{Graph, nodes, degree, everybody, Inside, Largest, limits, Core, marked, short, settled, removals, peel, cover, level, row-for, in-by-level, index-of}
-use Rattle.model.specs.Layout.{Index, Board, mark-places, sized, graph, board-graph}
-use Rattle.model.specs.Refusal.{build-refusal, peel-refusal}
+use Rattle.model.specs.Layout.{Part, Index, Board, mark-places, places, of-parts, exact, copied, sized, graph, board-graph}
+use Rattle.model.specs.Refusal.{refused-1, refused-2, first-number, board-short, build-refusal, peel-refusal}
 use Rattle.model.specs.Calls.{QueryOutcome, PeelOutcome, query-marks, board-build, board-query, board-peel}
-use Rattle.model.specs.Message.{board-message, board-messages}
+use Rattle.model.specs.Message.{board-message, board-preview, board-messages}
 
 -- how many nodes are marked
 abbrev pub members : Graph → List ℕ → ℕ
@@ -104,9 +104,31 @@ pub record NeverEleven : Type 0 where
   pub query : (h : Head) (index : List ℕ) (α β : ℕ) (marks : List ℕ) → board-query h index α β marks .answer .code ≢ 11
   pub peel : (h : Head) (operators rides marks : List ℕ) (α β allowed : ℕ) → board-peel h operators rides marks α β allowed .answer .code ≢ 11
   pub message : (b : Board) (m : Message) → board-message b m .answer .code ≢ 11
+  pub preview : (b : Board) (m : Message) (spare : Board) → board-preview b m spare .answer .code ≢ 11
   pub messages : (b : Board) (ms : List Message) (answers : List ℕ) → board-messages b ms answers .code ≢ 11
   pub answers : (b : Board) (ms : List Message) (answers : List ℕ) (i : ℕ) → board-messages b ms answers .code ≡ 0 → i < length ms →
       getD (board-messages b ms answers .answers) i 0 ≢ 11
+
+-- Document 02, 2.2, of a preview on any board, of any message and with any spare board
+pub record PreviewLaws (b : Board) (m : Message) (spare : Board) : Type 0 where
+  -- where it isn't refused, its answer and the spare board are what the message gives on the board's words laid over the spare memory
+  pub on-copy : board-preview b m spare .answer .code ≡ 0 → board-preview b m spare ≡ board-message (copied b (spare .part)) m
+  -- the message then sent to the board gives the same answer, and leaves the board equal to the spare board, to the lengths under Layout
+  pub same-answer : board-preview b m spare .answer .code ≡ 0 → board-message b m .answer ≡ board-preview b m spare .answer
+  pub same-board : board-preview b m spare .answer .code ≡ 0 → exact (board-message b m .board) ≡ exact (board-preview b m spare .board)
+  -- refused, it leaves the spare board as it was, its head included, and its count is 0
+  pub kept : board-preview b m spare .answer .code ≢ 0 → board-preview b m spare .board ≡ spare
+  pub none-differ : board-preview b m spare .answer .code ≢ 0 → board-preview b m spare .answer .differ ≡ 0
+  -- places of the spare parts past the lengths under Layout stay
+  pub behind : (p : Part) → drop (places (b .head) p) (board-preview b m spare .board .part p) ≡ drop (places (b .head) p) (spare .part p)
+  -- where no spare part is too short it gets the message's number; where one is, the first of 1, 2 and 3 that applies
+  pub same-number : board-short (of-parts (b .head) (spare .part)) ≡ false → board-preview b m spare .answer .code ≡ board-message b m .answer .code
+  pub short-spare : board-short (of-parts (b .head) (spare .part)) ≡ true →
+      board-preview b m spare .answer .code ≡ first-number ((1, refused-1 (b .head)) ∷ (2, refused-2 (b .head)) ∷ (3, true) ∷ [])
+  -- what the spare board holds on entry never matters, its head included
+  pub any-answer : (other : Board) → ((p : Part) → length (spare .part p) ≡ length (other .part p)) → board-preview b m spare .answer ≡ board-preview b m other .answer
+  pub any-board : (other : Board) → board-preview b m spare .answer .code ≡ 0 → board-preview b m other .answer .code ≡ 0 →
+      exact (board-preview b m spare .board) ≡ exact (board-preview b m other .board)
 
 -- Demand 2 for queries: on the index of any clearances of the head's sizes the marks are the (α, β)-core, for every α and β from 0
 abbrev pub QueryIsCore : Type 0
@@ -137,6 +159,15 @@ BuildThenQuery =
     build-refusal b start ≡ 0 →
     mark-places (b .head) ≤ length marks →
     IsCore (board-graph b) α β (board-query (b .head) (board-build b start .board .part Index) α β marks)
+
+-- the same of the index that a preview left in spare memory: the core of the pairs that the spare board lists
+abbrev pub PreviewThenQuery : Type 0
+PreviewThenQuery =
+    (b : Board) (m : Message) (spare : Board) (α β : ℕ) (marks : List ℕ) →
+    board-preview b m spare .answer .code ≡ 0 →
+    mark-places (b .head) ≤ length marks →
+    let left = board-preview b m spare .board in
+    IsCore (board-graph left) α β (board-query (left .head) (left .part Index) α β marks)
 
 -- what a peel from all ones gives, with so many steps allowed: settled, its marks are the (α, β)-core; one step was taken for each node
 -- that is out; and as many steps as there are nodes are enough to settle

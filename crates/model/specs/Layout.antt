@@ -3,7 +3,7 @@ use mathlib.Core.Bool.{Bool, false, _&&_, _||_, not}
 use mathlib.Core.List.{List, [], _∷_, _++_}
 use Prim.Native.Nat.{ℕ, _+_, _*_}
 use lib.Dec.{eqb}
-use lib.ListN.{length, getD, drop}
+use lib.ListN.{length, getD, take, drop}
 use Rattle.model.specs.declared.Head.{Head}
 use Rattle.model.specs.Count.{count, some}
 use Rattle.model.specs.Graph.{Graph}
@@ -54,9 +54,13 @@ parts operators rides stamps index Rides = rides
 parts operators rides stamps index Stamps = stamps
 parts operators rides stamps index Index = index
 
+-- the board of a head and parts
+abbrev pub of-parts : Head → Parts → Board
+of-parts h words = record { head = h; part = words }
+
 -- the board of these lent parts
 abbrev pub lent : Head → List ℕ → List ℕ → List ℕ → List ℕ → Board
-lent h operators rides stamps index = record { head = h; part = parts operators rides stamps index }
+lent h operators rides stamps index = of-parts h (parts operators rides stamps index)
 
 -- one of these parts passes the test
 abbrev pub some-part : (Part → Bool) → List Part → Bool
@@ -70,6 +74,14 @@ over new old = new ++ drop (length new) old
 -- the same of every part of a board
 abbrev pub onto : Board → Parts → Board
 onto b old = record { head = b .head; part = λ p. over (b .part p) (old p) }
+
+-- a board to the lengths under Layout
+abbrev pub exact : Board → Board
+exact b = of-parts (b .head) (λ p. take (places (b .head) p) (b .part p))
+
+-- a board copied to spare memory: the board's words to the lengths under Layout, and past them the spare memory's own
+unfoldable pub copied : Board → Parts → Board
+copied b spare = onto (exact b) spare
 
 -- the pair (u, v) stands at place i of the pair arrays
 abbrev pub pair-at : List ℕ → List ℕ → ℕ → ℕ → ℕ → Bool

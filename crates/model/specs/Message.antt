@@ -1,14 +1,14 @@
--- Document 01, Message and Message list: each a function from all that comes in to all that comes out.
+-- Document 01, Message and Message list, and document 02, 2.2, Preview: each a function from all that comes in to all that comes out.
 use mathlib.Core.List.{List, [], _∷_}
 use Prim.Native.Nat.{ℕ, zero, suc}
 use lib.ListN.{length, set}
 use Rattle.model.specs.declared.Message.{Message}
 use Rattle.model.specs.declared.Answer.{Answer}
-use Rattle.model.specs.Layout.{Index, Board, index-places, onto, differing}
+use Rattle.model.specs.Layout.{Index, Board, index-places, onto, copied, differing}
 use Rattle.model.specs.Contents.{slot, entry, put, contents, board-of}
-use Rattle.model.specs.Refusal.{message-refusal, list-refusal}
+use Rattle.model.specs.Refusal.{message-refusal, preview-refusal, list-refusal}
 
--- what a message gives: its answer, and the board at exit
+-- what a message gives: its answer, and the board at exit; a preview: its answer, and the spare board at exit
 pub record MessageOutcome : Type 0 where
   pub answer : Answer
   pub board : Board
@@ -30,6 +30,14 @@ board-message b m =
             board = board-after b m;
           }
       | suc k ↦ record { answer = record { code = suc k; differ = 0 }; board = b }
+    ]
+
+-- Preview: what the message gives on a copy of the board in the spare memory; refused, the spare board stays, its head included
+unfoldable pub board-preview : Board → Message → Board → MessageOutcome
+board-preview b m spare =
+    elim (preview-refusal b m (spare .part)) [
+      | zero ↦ board-message (copied b (spare .part)) m
+      | suc k ↦ record { answer = record { code = suc k; differ = 0 }; board = spare }
     ]
 
 -- what a message list gives: its number, the board and the answer list at exit

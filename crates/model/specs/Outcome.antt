@@ -1,4 +1,4 @@
--- The outcomes of the five calls, put together from what a call answers and the lent parts at exit.
+-- The outcomes of the six calls, put together from what a call answers and the lent parts at exit.
 use mathlib.Core.List.{List}
 use Prim.Native.Nat.{ℕ}
 use Rattle.model.specs.declared.Head.{Head}
@@ -21,7 +21,7 @@ queried r marks = record { answer = r; marks = marks }
 abbrev pub peel-left : Peeled → List ℕ → PeelOutcome
 peel-left r marks = record { answer = r; marks = marks }
 
--- Message: its answer, and the lent parts at exit
+-- Message: its answer, and the lent parts at exit; Preview: its answer, and the spare parts at exit
 abbrev pub answered : Answer → Head → List ℕ → List ℕ → List ℕ → List ℕ → MessageOutcome
 answered r h operators rides stamps index = record { answer = r; board = lent h operators rides stamps index }
 

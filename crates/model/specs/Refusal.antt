@@ -8,7 +8,7 @@ use lib.ListN.{length, getD}
 use Rattle.model.specs.declared.Head.{Head}
 use Rattle.model.specs.declared.Message.{Message}
 use Rattle.model.specs.Count.{some}
-use Rattle.model.specs.Layout.{Operators, Rides, Stamps, Board, pair-places, mark-places, index-places, places, all-parts, some-part}
+use Rattle.model.specs.Layout.{Operators, Rides, Stamps, Parts, Board, pair-places, mark-places, index-places, places, all-parts, some-part, of-parts}
 use Rattle.model.specs.Contents.{later, slot, entry, contents, stamp-place}
 
 -- 1: operators over 200
@@ -113,6 +113,11 @@ message-cases b m =
 -- message: 1 to 10
 unfoldable pub message-refusal : Board → Message → ℕ
 message-refusal b m = first-number (board-cases b (board-short b) ++ message-cases b m)
+
+-- preview: 1 to 10 as a message; a part of the spare memory that is too short for the board is 3
+unfoldable pub preview-refusal : Board → Message → Parts → ℕ
+preview-refusal b m spare =
+    first-number (board-cases b (board-short b || board-short (of-parts (b .head) spare)) ++ message-cases b m)
 
 -- message list: 1 to 6; an answer list shorter than the message list is 3
 unfoldable pub list-refusal : Board → ℕ → List ℕ → ℕ

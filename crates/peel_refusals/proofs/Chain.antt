@@ -58,7 +58,7 @@ module _ (h : Head) (operators rides marks : List ℕ) (short : Bool) (s : short
 
     -- the marks are long enough
     pub marks-long : mark-places h ≤ length marks
-    marks-long = peel-long h operators rides marks (table-long h (short-parts h operators rides marks) operators rides (sym table ∙ z)) .2
+    marks-long = peel-long h operators rides marks (table-long h (short-parts h operators rides marks) operators rides [] (sym table ∙ z)) .2
 
 -- ---- 3 and 12 of a peel
 

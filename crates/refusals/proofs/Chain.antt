@@ -113,6 +113,6 @@ module _ (h : Head) (index : List ℕ) (marks : List ℕ) (r₁ r₂ r₃ r₄ :
   query-first l₁ l₂ l₃ l₄ =
       l₄ _ (l₃ _ (l₂ _ (l₁ [] (sym first-nil)) ∙ first-twice 3 (refused-3 (index-places h) index) (refused-3 (mark-places h) marks) []))
 
--- where none of 1 to 5 applies, no part is too short
-pub table-long : (h : Head) (short : Bool) (operators rides : List ℕ) → first-number (table-cases h short operators rides) ≡ 0 → T short → ⊥
-table-long h short operators rides e = first-none 2 short _ (first-none 1 (refused-2 h) _ (first-none 0 (refused-1 h) _ e .1) .1) .0
+-- where none of 1 to 5 applies, nor one behind them, no part is too short
+pub table-long : (h : Head) (short : Bool) (operators rides : List ℕ) (cs : List (ℕ × Bool)) → first-number (table-cases h short operators rides ++ cs) ≡ 0 → T short → ⊥
+table-long h short operators rides cs e = first-none 2 short _ (first-none 1 (refused-2 h) _ (first-none 0 (refused-1 h) _ e .1) .1) .0

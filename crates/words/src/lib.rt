@@ -1,4 +1,4 @@
-// Arrays of 16-bit words and of 32-bit stamps: one value stored from one place up to another; words copied, and words stored and compared with the old ones.
+// Arrays of 16-bit words and of 32-bit stamps: one value stored from one place up to another; words and stamps copied, and words stored and compared with the old ones.
 ghost use mathlib.Core.Path.{_≡_};
 ghost use mathlib.Core.Bool.{not};
 ghost use mathlib.Core.List.{_++_};
@@ -41,6 +41,18 @@ pub fn copy(from: &[u16], to: &mut [u16], n: usize)
     let mut i = 0;
     while i < n {
         to[i] = from[i];
+        i += 1;
+    }
+}
+
+// Copies the first n stamps.
+pub fn copy_stamps(stamps: &[u32], to: &mut [u32], n: usize)
+    requires { ⌜ (n ≤ length (now stamps)) × (n ≤ length (now to)) ⌝ }
+    ensures { λ _. ⌜ now (to .exit) ≡ take n (now (stamps .entry)) ++ drop n (now (to .entry)) ⌝ }
+{
+    let mut i = 0;
+    while i < n {
+        to[i] = stamps[i];
         i += 1;
     }
 }

@@ -23,7 +23,7 @@ missing-requires c κs = let s = c .before .before .before .before .before in
     let a = s .args in
     let e = c .before .table-number .ensures in
     let z : c .before .table-number .result ≡ 0 = omega arith in
-    let p = s .pre (test-false (a .short) (table-long (a .head) (a .short) (a .operators .now) (a .rides .now) (sym e ∙ z))) in
+    let p = s .pre (test-false (a .short) (table-long (a .head) (a .short) (a .operators .now) (a .rides .now) [] (sym e ∙ z))) in
     (table-accepted (a .head) (a .short) (a .operators .now) (a .rides .now) [] (sym e ∙ z) (p .0) (p .1), p .2)
 
 returns-2 : tie.Need-returns-2

@@ -1,13 +1,12 @@
 -- `message_refusals::list_number` meets its contract. Assumes nothing.
 use borrow.Author.Needs.{needs}
-use mathlib.Core.Path.{sym, ap, subst, _∙_}
-use mathlib.Core.Bool.{Bool}
+use mathlib.Core.Path.{sym, subst, _∙_}
 use lib.Dec.{T}
 use Rattle.model.specs.Layout.{Operators, Rides, Stamps, lent}
-use Rattle.model.specs.Refusal.{refused-3, board-short, first-number, board-cases}
+use Rattle.model.specs.Refusal.{refused-3, board-short}
 use Rattle.model.proofs.Count.{or-left}
 use Rattle.model.proofs.Parts.{board-long}
-use Rattle.message_refusals.proofs.Message.{list-board}
+use Rattle.message_refusals.proofs.Message.{list-of}
 use Rattle.message_refusals.proofs.list_number.Statement.{statement}
 use Rattle.message_refusals.proofs.list_number.Tie as tie
 
@@ -21,8 +20,7 @@ board-number-requires c κs = let a = c .before .before .before .before .before 
 
 returns : tie.Need-returns
 returns c = let a = c .before .before .before .before .before .before .before .args in
-    let b = lent (a .head) (a .operators .now) (a .rides .now) (a .stamps .now) (a .index .now) in
-    c .board-number .ensures (a .index .now) ∙ ap (λ (z : Bool). first-number (board-cases b z)) (c .before .short-list .ensures) ∙ list-board b (a .messages) (a .answers .now)
+    c .board-number .ensures (a .index .now) ∙ list-of (lent (a .head) (a .operators .now) (a .rides .now) (a .stamps .now) (a .index .now)) _ (a .messages) (a .answers .now) (c .before .short-list .ensures)
 
 pub list-number-spec : {M : Type 1} → statement M
 list-number-spec = tie.close (tie.spec short-list-requires board-number-requires returns)

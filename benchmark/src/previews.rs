@@ -1,0 +1,114 @@
+//! A preview beside the library's message and a plain copy of the board.
+
+use crate::{measure, median, Case, ROUNDS, START};
+use board::{Board, Head, Memory, Message};
+use std::hint::black_box;
+use std::mem::swap;
+
+/// A board's head, and its parts to the lengths that it needs.
+#[derive(Clone, PartialEq)]
+struct Words {
+    head: Head,
+    operators: Vec<u16>,
+    rides: Vec<u16>,
+    stamps: Vec<u32>,
+    index: Vec<u16>,
+}
+
+impl Words {
+    fn new(case: &Case) -> Words {
+        let mut memory = Box::new(Memory::new());
+        let board = Board::build(memory.parts(), case.operators, case.rides, &case.pairs, START).unwrap();
+        let (operators, rides, stamps, index) = board.words();
+        Words {
+            head: board.head(),
+            operators: operators.to_vec(),
+            rides: rides.to_vec(),
+            stamps: stamps.to_vec(),
+            index: index.to_vec(),
+        }
+    }
+
+    fn preview(&self, one: Message, spare: &mut Words) -> u16 {
+        board::preview(
+            self.head,
+            &self.operators,
+            &self.rides,
+            &self.stamps,
+            &self.index,
+            one,
+            &mut spare.head,
+            &mut spare.operators,
+            &mut spare.rides,
+            &mut spare.stamps,
+            &mut spare.index,
+        )
+        .unwrap()
+    }
+
+    fn message(&mut self, one: Message) -> u16 {
+        let (operators, rides) = (&mut self.operators, &mut self.rides);
+        board::message(&mut self.head, operators, rides, &mut self.stamps, &mut self.index, one).unwrap()
+    }
+
+    fn copy_from(&mut self, from: &Words) {
+        self.head = from.head;
+        self.operators.copy_from_slice(&from.operators);
+        self.rides.copy_from_slice(&from.rides);
+        self.stamps.copy_from_slice(&from.stamps);
+        self.index.copy_from_slice(&from.index);
+    }
+}
+
+/// The microseconds of a preview, a message and a copy, in each round. Preview and message are given the same messages in
+/// the same order, all taken, and equal boards: the spare memory of one preview is the board of the next.
+fn times(case: &Case) -> [Vec<f64>; 3] {
+    eprintln!("measures preview, {} × {}, {} pairs", case.operators, case.rides, case.pairs.len());
+    let board = Words::new(case);
+    let (mut now, mut spare) = (board.clone(), board.clone());
+    let (mut sent, mut copy) = (board.clone(), board.clone());
+    let (mut to_preview, mut to_send) = (case.messages.iter(), case.messages.iter());
+    let (mut previewed, mut taken) = (0, 0);
+    let times = measure(
+        case.messages.len() / (ROUNDS + 2),
+        &mut [
+            &mut || {
+                previewed += now.preview(*to_preview.next().unwrap(), &mut spare) as u64;
+                swap(&mut now, &mut spare);
+            },
+            &mut || taken += sent.message(*to_send.next().unwrap()) as u64,
+            &mut || black_box(&mut copy).copy_from(black_box(&board)),
+        ],
+    );
+    assert!(now == sent && previewed == taken && copy == board);
+    times
+}
+
+/// A preview's time over that of a message and a copy: the median of the rounds' ratios.
+fn ratio([preview, message, copy]: &[Vec<f64>; 3]) -> f64 {
+    let both = message.iter().zip(copy).map(|(message, copy)| message + copy);
+    median(preview.iter().zip(both).map(|(preview, both)| preview / both).collect())
+}
+
+fn print_line(case: &Case, times: &[Vec<f64>; 3]) {
+    let [preview, message, copy] = times.each_ref().map(|times| median(times.clone()));
+    println!(
+        "| {} × {} | {} | {preview:.1} | {message:.1} | {copy:.1} | {:.2} |",
+        case.operators,
+        case.rides,
+        case.pairs.len(),
+        ratio(times)
+    );
+}
+
+pub fn print(cases: &[Case]) {
+    let measured: Vec<_> = cases.iter().map(times).collect();
+    println!("A preview beside the library's message and a plain copy of the board, medians of {ROUNDS} rounds:\n");
+    println!("| Board | Pairs | preview µs | message µs | copy µs | preview / (message + copy) |");
+    println!("|---|---:|---:|---:|---:|---:|");
+    cases.iter().zip(&measured).for_each(|(case, times)| print_line(case, times));
+    let goal = cases.iter().position(|case| case.operators == 200 && case.pairs.len() == 6000).unwrap();
+    let (most, ratio) = (1.05, ratio(&measured[goal]));
+    let reached = if ratio <= most { "reached" } else { "NOT reached" };
+    println!("\n- at 6,000 pairs at most {most} × (message + copy): {ratio:.2}, {reached}\n");
+}

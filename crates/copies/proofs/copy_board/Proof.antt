@@ -1,0 +1,79 @@
+-- `copies::copy_board` meets its contract: each part is copied to its length. Assumes nothing.
+use borrow.Author.Needs.{needs}
+use native.Mathlib.Omega.{arith}
+use Rattle.model.specs.Layout.{Operators, Rides, Stamps, Index, parts, lent}
+use Rattle.pairs.proofs.Place.{product-fits}
+use Rattle.copies.proofs.Copy.{long, all-copied}
+use Rattle.copies.proofs.copy_board.Statement.{statement}
+use Rattle.copies.proofs.copy_board.Tie as tie
+
+cast-n : tie.Need-cast-n
+cast-n c = search needs
+
+cast-m : tie.Need-cast-m
+cast-m c = search needs
+
+mul-places : tie.Need-mul-places
+mul-places c = let a = c .before .before .before .before .before .before .before .before .before .before .args in omega (arith, product-fits (a .head .operators) (a .head .rides) (omega arith) (omega arith))
+
+copy-requires : tie.Need-copy-requires
+copy-requires c κs = let s = c .before .before .before .before .before .before .before .before .before .before .before in
+    let a = s .args in
+    (long (lent (a .head) (a .operators .now) (a .rides .now) (a .stamps .now) (a .index .now)) (s .pre .0) Operators, long (lent (a .head) (a .spare-operators .now) (a .spare-rides .now) (a .spare-stamps .now) (a .spare-index .now)) (s .pre .1) Operators)
+
+copy-requires-2 : tie.Need-copy-requires-2
+copy-requires-2 c κs = let s = c .before .before .before .before .before .before .before .before .before .before .before .before .before .before .before in
+    let a = s .args in
+    (long (lent (a .head) (a .operators .now) (a .rides .now) (a .stamps .now) (a .index .now)) (s .pre .0) Rides, long (lent (a .head) (a .spare-operators .now) (a .spare-rides .now) (a .spare-stamps .now) (a .spare-index .now)) (s .pre .1) Rides)
+
+copy-stamps-requires : tie.Need-copy-stamps-requires
+copy-stamps-requires c κs = let s = c .before .before .before .before .before .before .before .before .before .before .before .before .before .before .before .before .before .before .before in
+    let a = s .args in
+    (long (lent (a .head) (a .operators .now) (a .rides .now) (a .stamps .now) (a .index .now)) (s .pre .0) Stamps, long (lent (a .head) (a .spare-operators .now) (a .spare-rides .now) (a .spare-stamps .now) (a .spare-index .now)) (s .pre .1) Stamps)
+
+add-copy : tie.Need-add-copy
+add-copy c = search needs
+
+mul-copy : tie.Need-mul-copy
+mul-copy c = let a = c .before .before .before .before .before .before .before .before .before .before .before .before .before .before .before .before .before .before .before .before .before .before .before .args in omega (arith, product-fits (a .head .operators) (a .head .rides) (omega arith) (omega arith), product-fits (a .head .rides) (a .head .rides) (omega arith) (omega arith))
+
+copy-requires-3 : tie.Need-copy-requires-3
+copy-requires-3 c κs = let s = c .before .before .before .before .before .before .before .before .before .before .before .before .before .before .before .before .before .before .before .before .before .before .before in
+    let a = s .args in
+    (long (lent (a .head) (a .operators .now) (a .rides .now) (a .stamps .now) (a .index .now)) (s .pre .0) Index, long (lent (a .head) (a .spare-operators .now) (a .spare-rides .now) (a .spare-stamps .now) (a .spare-index .now)) (s .pre .1) Index)
+
+same-length : tie.Need-same-length
+same-length c = search needs
+
+same-length-2 : tie.Need-same-length-2
+same-length-2 c = search needs
+
+same-length-3 : tie.Need-same-length-3
+same-length-3 c = search needs
+
+same-length-4 : tie.Need-same-length-4
+same-length-4 c = search needs
+
+returns : tie.Need-returns
+returns c = let s = c .before .before .before .before .before .before .before .before .before .before .before .before .before .before .before .before .before .before .before .before .before .before .before .before .before .before in
+    let a = s .args in
+    all-copied (lent (a .head) (a .operators .now) (a .rides .now) (a .stamps .now) (a .index .now)) (s .pre .0) (parts (a .spare-operators .now) (a .spare-rides .now) (a .spare-stamps .now) (a .spare-index .now)) _ (c .before .before .before .before .before .before .before .before .before .before .before .before .before .before .copy .ensures) (c .before .before .before .before .before .before .before .before .before .before .copy2 .ensures) (c .before .before .before .before .before .before .copy-stamps .ensures) (c .before .before .copy3 .ensures)
+
+pub copy-board-spec : {M : Type 1} → statement M
+copy-board-spec =
+    tie.close
+    (tie.spec
+    cast-n
+    cast-m
+    mul-places
+    copy-requires
+    copy-requires-2
+    copy-stamps-requires
+    add-copy
+    mul-copy
+    copy-requires-3
+    same-length
+    same-length-2
+    same-length-3
+    same-length-4
+    returns)

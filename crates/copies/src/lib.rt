@@ -1,0 +1,37 @@
+// A board copied to spare memory.
+ghost use mathlib.Core.Path.{_≡_};
+ghost use mathlib.Core.Bool.{false};
+ghost use Rattle.model.specs.Layout.{parts, lent, copied};
+ghost use Rattle.model.specs.Refusal.{board-short};
+use model::Head;
+
+// Copies a board's exact words to spare memory: of each part the places under Layout. What lies behind them stays.
+pub fn copy_board(
+    head: Head,
+    operators: &[u16],
+    rides: &[u16],
+    stamps: &[u32],
+    index: &[u16],
+    spare_operators: &mut [u16],
+    spare_rides: &mut [u16],
+    spare_stamps: &mut [u32],
+    spare_index: &mut [u16],
+)
+    requires { ⌜
+        (board-short (lent head (now operators) (now rides) (now stamps) (now index)) ≡ false) ×
+        (board-short (lent head (now «spare_operators») (now «spare_rides») (now «spare_stamps») (now «spare_index»)) ≡ false)
+        ⌝ }
+    ensures { λ _. ⌜
+        lent head (now («spare_operators» .exit)) (now («spare_rides» .exit)) (now («spare_stamps» .exit)) (now («spare_index» .exit))
+        ≡ copied (lent head (now (operators .entry)) (now (rides .entry)) (now (stamps .entry)) (now (index .entry)))
+        (parts (now («spare_operators» .entry)) (now («spare_rides» .entry)) (now («spare_stamps» .entry)) (now («spare_index» .entry)))
+        ⌝ }
+{
+    let n = head.operators as usize;
+    let m = head.rides as usize;
+    let places = n * m;
+    words::copy(operators, spare_operators, places);
+    words::copy(rides, spare_rides, places);
+    words::copy_stamps(stamps, spare_stamps, places);
+    words::copy(index, spare_index, m * (n + m));
+}
