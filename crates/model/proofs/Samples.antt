@@ -1,4 +1,4 @@
--- The starred samples of document 01 hold, and those of limits of 0: one test that is computed over both tables, and the law that turns it into equations. Assumes nothing.
+-- The starred samples of document 01 hold, and those of limits of 0 and of previews: one test that is computed over the tables, and the law that turns it into equations. Assumes nothing.
 use mathlib.Core.Path.{_≡_, refl, ap₂}
 use mathlib.Core.Bool.{Bool, true, false, _&&_}
 use mathlib.Core.List.{List, [], _∷_}
@@ -11,7 +11,7 @@ use Rattle.model.specs.Contents
 use Rattle.model.specs.Refusal
 use Rattle.model.specs.Calls
 use Rattle.model.specs.Message
-use Rattle.model.specs.Samples.{samples, zero-samples, Agree}
+use Rattle.model.specs.Samples.{samples, zero-samples, preview-samples, Agree}
 
 -- the test: two lists are equal word by word
 abbrev same : List ℕ → List ℕ → Bool
@@ -43,12 +43,21 @@ all-agree [] t = tt
 all-agree (r ∷ rs) t =
     (same-equal (r .0) (r .1) (and-left (same (r .0) (r .1)) (all-same rs) t), all-agree rs (and-right (same (r .0) (r .1)) (all-same rs) t))
 
-tested : T (all-same samples && all-same zero-samples)
-unfolding samples zero-samples Count.count Count.some Count.lowest Count.values Count.rows Graph.degree Graph.limits Graph.short Graph.settled Graph.removals Graph.without Graph.peel Graph.cover Graph.level-to Graph.level Graph.row Graph.index-of Layout.listed Layout.differing Refusal.misplaced Refusal.refused-5 Refusal.refused-12 Refusal.first-number Refusal.board-short Refusal.peel-refusal Refusal.query-refusal Calls.query-marks Calls.counts Calls.board-query Calls.peeled Calls.board-peel Count.passing Refusal.build-refusal Refusal.refused-6 Refusal.refused-10 Refusal.message-refusal Calls.built Calls.board-build Contents.pair-numbers Contents.words Message.board-after Message.board-message
+abbrev further : Bool
+further = all-same zero-samples && all-same preview-samples
+
+tested : T (all-same samples && further)
+unfolding samples zero-samples preview-samples Layout.copied Refusal.preview-refusal Message.board-preview Count.count Count.some Count.lowest Count.values Count.rows Graph.degree Graph.limits Graph.short Graph.settled Graph.removals Graph.without Graph.peel Graph.cover Graph.level-to Graph.level Graph.row Graph.index-of Layout.listed Layout.differing Refusal.misplaced Refusal.refused-5 Refusal.refused-12 Refusal.first-number Refusal.board-short Refusal.peel-refusal Refusal.query-refusal Calls.query-marks Calls.counts Calls.board-query Calls.peeled Calls.board-peel Count.passing Refusal.build-refusal Refusal.refused-6 Refusal.refused-10 Refusal.message-refusal Calls.built Calls.board-build Contents.pair-numbers Contents.words Message.board-after Message.board-message
 tested = tt
 
 pub samples-hold : Agree samples
-samples-hold = all-agree samples (and-left (all-same samples) (all-same zero-samples) tested)
+samples-hold = all-agree samples (and-left (all-same samples) further tested)
+
+further-tested : T further
+further-tested = and-right (all-same samples) further tested
 
 pub zero-samples-hold : Agree zero-samples
-zero-samples-hold = all-agree zero-samples (and-right (all-same samples) (all-same zero-samples) tested)
+zero-samples-hold = all-agree zero-samples (and-left (all-same zero-samples) (all-same preview-samples) further-tested)
+
+pub preview-samples-hold : Agree preview-samples
+preview-samples-hold = all-agree preview-samples (and-right (all-same zero-samples) (all-same preview-samples) further-tested)

@@ -1,13 +1,13 @@
 -- Document 01, Samples on that board: those with a star, one table. Each row has what the definitions give, and what document 01 says.
--- The last row, "Built at stamp 5", has no star. A second table has limits of 0: document 02, 2.1.
+-- The last row, "Built at stamp 5", has no star. A second table has limits of 0: document 02, 2.1. A third has previews: document 02, 2.2.
 use mathlib.Core.Path.{_≡_}
 use mathlib.Core.List.{List, [], _∷_, _++_}
 use Prim.Native.Nat.{ℕ, _-_, _*_}
 use lib.ListN.{getD, take, drop, replicate}
 use Rattle.model.specs.Graph.{Graph, limits, removals, cover, row}
-use Rattle.model.specs.Layout.{Operators, Rides, Index, Board, mark-places, lent, board-graph}
+use Rattle.model.specs.Layout.{Operators, Rides, Stamps, Index, Board, mark-places, lent, board-graph}
 use Rattle.model.specs.Calls.{PeelOutcome, board-build, board-query, board-peel}
-use Rattle.model.specs.Message.{MessageOutcome, board-message}
+use Rattle.model.specs.Message.{MessageOutcome, board-message, board-preview}
 
 -- document 01's board as it is lent to a build: words of no meaning stand behind the pairs, in the stamps and in the index
 abbrev table : Board
@@ -112,6 +112,39 @@ zero-samples =
     limits-row no-rides 1 0 0 0 (0 ∷ 0 ∷ []) ∷
     limits-row no-operators 3 0 0 2 (1 ∷ 1 ∷ []) ∷
     limits-row no-operators 0 1 0 0 (0 ∷ 0 ∷ []) ∷
+    []
+
+-- a spare board: words of no meaning in its head and parts, whose last place is past the lengths under Layout; its index has so many places
+abbrev spare : ℕ → Board
+spare places =
+    lent (record { operators = 9; rides = 9; pairs = 9 }) (replicate 13 9) (replicate 13 9) (replicate 13 9) (replicate places 9)
+
+-- what the preview of a message for the pair (0,0) gives on the board built at stamp 1
+abbrev previewed : ℕ → ℕ → MessageOutcome
+previewed kind places =
+    board-preview (built-at 1) (record { kind = kind; operator = 0; ride = 0; stamp = 2 }) (spare places)
+
+-- a preview's number, its count, and the spare head
+abbrev numbers : MessageOutcome → List ℕ
+numbers o =
+    o .answer .code ∷ o .answer .differ ∷ o .board .head .operators ∷ o .board .head .rides ∷ o .board .head .pairs ∷ []
+
+-- previews, by hand. Without (0,0) ride 0 has operator 1 alone: in row 1 it falls from 2 to 1. In row 2 operator 0 has one ride and is out;
+-- operators 1 and 2 and all rides are in cover (2,1), and in (2,2) nobody. So 1 + 4 words differ.
+-- A message of kind 3 gets 7, and a spare index one place short 3: nothing of the spare board changes.
+unfoldable pub preview-samples : List (List ℕ × List ℕ)
+preview-samples =
+    (numbers (previewed 2 22), 0 ∷ 5 ∷ 4 ∷ 3 ∷ 6 ∷ []) ∷
+    (previewed 2 22 .board .part Operators, 0 ∷ 1 ∷ 1 ∷ 2 ∷ 2 ∷ 3 ∷ 0 ∷ 0 ∷ 0 ∷ 0 ∷ 0 ∷ 0 ∷ 9 ∷ []) ∷
+    (previewed 2 22 .board .part Rides, 1 ∷ 0 ∷ 1 ∷ 1 ∷ 2 ∷ 2 ∷ 0 ∷ 0 ∷ 0 ∷ 0 ∷ 0 ∷ 0 ∷ 9 ∷ []) ∷
+    (previewed 2 22 .board .part Stamps, 2 ∷ 1 ∷ 0 ∷ 1 ∷ 1 ∷ 0 ∷ 0 ∷ 1 ∷ 1 ∷ 0 ∷ 0 ∷ 1 ∷ 9 ∷ []) ∷
+    (index-row (previewed 2 22 .board) 1, 3 ∷ 3 ∷ 3 ∷ 2 ∷ 1 ∷ 3 ∷ 2 ∷ []) ∷
+    (index-row (previewed 2 22 .board) 2, 0 ∷ 1 ∷ 1 ∷ 0 ∷ 1 ∷ 1 ∷ 1 ∷ []) ∷
+    (drop 14 (previewed 2 22 .board .part Index), 0 ∷ 0 ∷ 0 ∷ 0 ∷ 0 ∷ 0 ∷ 0 ∷ 9 ∷ []) ∷
+    (numbers (previewed 3 22), 7 ∷ 0 ∷ 9 ∷ 9 ∷ 9 ∷ []) ∷
+    (previewed 3 22 .board .part Stamps, replicate 13 9) ∷
+    (numbers (previewed 2 20), 3 ∷ 0 ∷ 9 ∷ 9 ∷ 9 ∷ []) ∷
+    (numbers (previewed 3 20), 3 ∷ 0 ∷ 9 ∷ 9 ∷ 9 ∷ []) ∷
     []
 
 -- in each row of a table the two lists are equal
