@@ -7,7 +7,6 @@ use Rattle.model.specs.declared.Head.{Head}
 use Rattle.model.specs.declared.Message.{Message}
 use Rattle.model.specs.Graph.{Graph, index-of}
 use Rattle.model.specs.Layout.{Operators, Rides, Index, Parts, parts, Board, mark-places, board-graph}
-use Rattle.model.specs.Contents.{Contents}
 use Rattle.model.specs.Calls.{board-query, board-peel}
 use Rattle.model.specs.Demand.{IsCore, IsPeeledCore}
 use Rattle.model.proofs.Cover.{cover-laws}
@@ -17,23 +16,20 @@ use Rattle.model.proofs.Query.{zero-is-no-limit, query-is-core}
 use Rattle.model.proofs.Contents.{extend, graph-extend, index-words}
 use Rattle.model.proofs.EndToEnd.{index-then-query, build-then-query, peel-none, peel-is-core}
 use Rattle.model.proofs.Preview.{preview-then-query}
-use Rattle.delivery.specs.Book.{book, latest, said, written}
+use Rattle.delivery.specs.Book.{book, written}
 use Rattle.delivery.specs.Core.{CallsThenIndex, CallsThenQuery, CallsThenPeel, Demand2}
 use Rattle.delivery.proofs.Latest.{AllValid}
-use Rattle.delivery.proofs.Run.{accepted-written}
+use Rattle.delivery.proofs.Run.{says, accepted-written}
 use Rattle.delivery.proofs.Build.{table}
 use Rattle.delivery.proofs.Demand.{board-is-book, valid-book}
 
 module _ (h : Head) (es : List Message) where
-  abbrev says : Contents
-  says t = said (latest es t)
-
   abbrev board : Board
   board = written h es
 
   written-index : board .part Index ≡ index-of (board-graph board)
   unfolding written
-  written-index = index-words h says (λ p. []) ∙ ap index-of (graph-extend h says (λ p. []))
+  written-index = index-words h (says h es) (λ p. []) ∙ ap index-of (graph-extend h (says h es) (λ p. []))
 
   module _ (few : h .operators ≤ 200) (few′ : h .rides ≤ 60) (α β : ℕ) (marks : List ℕ) (long : mark-places h ≤ length marks) where
     written-query : (more : List ℕ) → IsCore (board-graph board) α β (board-query (board .head) (board .part Index ++ more) α β marks)
@@ -48,7 +44,7 @@ module _ (h : Head) (es : List Message) where
         let behind : Parts = parts more more′ [] [] in
         let lent : Board = extend board behind in
         let none = peel-none lent marks (accepted-written h es few few′ valid behind .table) long ones in
-        subst (λ (g : Graph). IsPeeledCore g α β allowed (board-peel (board .head) (lent .part Operators) (lent .part Rides) marks α β allowed)) (graph-extend h says behind)
+        subst (λ (g : Graph). IsPeeledCore g α β allowed (board-peel (board .head) (lent .part Operators) (lent .part Rides) marks α β allowed)) (graph-extend h (says h es) behind)
         (peel-is-core (board .head) (lent .part Operators) (lent .part Rides) marks α β allowed none ones)
 
 pub calls-then-index : CallsThenIndex

@@ -7,3 +7,4 @@ pub mod OneMessage
 pub mod ListIsCalls
 pub mod Demand
 pub mod Core
+pub mod Preview

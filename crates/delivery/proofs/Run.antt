@@ -53,7 +53,7 @@ all-valid h (m ∷ ms) e i =
 
 module _ (h : Head) (es : List Message) where
   -- what the book says
-  abbrev says : Contents
+  abbrev pub says : Contents
   says t = said (latest es t)
 
   pub laid-written : Laid h (written h es)

@@ -9,10 +9,10 @@ use lib.Dec.{T}
 use lib.ListN.{length, take}
 use Rattle.model.specs.declared.Head.{Head}
 use Rattle.model.specs.declared.Message.{Message}
-use Rattle.model.specs.Layout.{Operators, Rides, Board, over, board-graph}
+use Rattle.model.specs.Layout.{Operators, Rides, Board, over, exact, board-graph}
 use Rattle.model.specs.Contents.{Slot, later, slot, entry}
 use Rattle.model.specs.Refusal.{build-refusal, message-refusal, list-refusal}
-use Rattle.model.specs.Message.{board-message, board-messages}
+use Rattle.model.specs.Message.{board-message, board-preview, board-messages}
 use Rattle.model.specs.Demand.{OneMove}
 use Rattle.delivery.specs.Calls.{Call, run, built-board, returned, case, delivered}
 use Rattle.delivery.specs.Book.{too-short, valid, book, latest, written}
@@ -97,6 +97,16 @@ pub record ListIsCalls : Type 0 where
   -- 1 to 6 don't apply after any of its messages
   pub keeps : (b : Board) (m : Message) (messages : ℕ) (answers : List ℕ) → list-refusal b messages answers ≡ 0 →
       list-refusal (board-message b m .board) messages answers ≡ 0
+
+-- Document 02, 2.2, after any list of calls: a preview that isn't refused leaves in the spare memory, to the lengths under Layout,
+-- the board worked out from the book with the message entered
+abbrev pub CallsThenPreview : Type 0
+CallsThenPreview =
+    (b : Board) (start : ℕ) (calls : List Call) (m : Message) (spare : Board) →
+    build-refusal b start ≡ 0 →
+    let preview = board-preview (run (built-board b start) calls) m spare in
+    preview .answer .code ≡ 0 →
+    exact (preview .board) ≡ written (b .head) (book (b .head) (b .part Operators) (b .part Rides) start calls ++ (m ∷ []))
 
 -- Demand 3, all of it
 pub record Demand3 : Type 0 where

@@ -1,26 +1,24 @@
 -- A message looks at a board's words to the lengths under Layout alone: two boards of one head that have the same there refuse the same messages,
 -- and a taken message leaves them the same there, with the same answer. Assumes nothing.
 use mathlib.Core.Path.{_≡_, refl, sym, ap, ap₂, _∙_}
-use mathlib.Core.Bool.{Bool, true, false, _||_, not}
+use mathlib.Core.Bool.{true, false, _||_, not}
 use mathlib.Core.List.{List, []}
-use Prim.Native.Nat.{ℕ, zero, suc, _+_, _*_, _≤_, _<_}
+use Prim.Native.Nat.{ℕ, zero, suc, _≤_, _<_}
 use native.Mathlib.Omega.{arith}
 use lib.Dec.{T, eqb}
 use lib.Arith.{digits-lt}
 use lib.ListN.{length, getD, drop, List·getD-append}
 use Rattle.model.specs.declared.Head.{Head}
 use Rattle.model.specs.declared.Message.{Message}
-use Rattle.model.specs.declared.Answer.{Answer}
-use Rattle.model.specs.Graph.{Graph}
-use Rattle.model.specs.Layout.{Part, Operators, Rides, Stamps, Index, Parts, Board, pair-places, index-places, places, of-parts, over, exact, board-graph, differing}
-use Rattle.model.specs.Contents.{Slot, Pair, Entry, later, slot, entry, Contents, put, same-slot, contents, stamp-place, words, board-of}
+use Rattle.model.specs.Layout.{Part, Operators, Rides, Stamps, Index, Parts, Board, pair-places, index-places, places, of-parts, exact, board-graph, differing}
+use Rattle.model.specs.Contents.{Slot, Pair, Entry, later, slot, entry, put, same-slot, contents, stamp-place, words, board-of}
 use Rattle.model.specs.Refusal.{refused-1, refused-2, refused-4, refused-5, refused-6, refused-7, refused-8, refused-9, refused-10, before, out-of-range, misplaced, board-short, message-refusal}
 use Rattle.model.specs.Message.{MessageOutcome, board-after, board-message}
 use Rattle.model.proofs.Count.{count-ext, some-ext}
 use Rattle.model.proofs.Chain.{first-same, enough}
-use Rattle.model.proofs.Pairs.{Pairs, graph-same, table-pairs}
+use Rattle.model.proofs.Pairs.{graph-same, table-pairs}
 use Rattle.model.proofs.Contents.{Within, length-words, board-of-same, exact-onto}
-use Rattle.model.proofs.Refusal.{tests-valid, taken-none}
+use Rattle.model.proofs.Refusal.{tests-valid}
 use Rattle.model.proofs.Taken.{message-taken, valid-within}
 
 module _ (h : Head) (a a′ : Parts) (same : (p : Part) (i : ℕ) → i < places h p → getD (a p) i 0 ≡ getD (a′ p) i 0) where

@@ -1,5 +1,5 @@
 -- Laws of previews: refused, or the message on a copy of the board in spare memory, where it gives what it gives on the board. Assumes nothing.
-use mathlib.Core.Path.{_≡_, refl, sym, ap, ap₂, _∙_, subst}
+use mathlib.Core.Path.{_≡_, refl, sym, ap, _∙_, subst}
 use mathlib.Core.Logic.{_≢_}
 use mathlib.Core.Bool.{Bool, true, false, _||_}
 use mathlib.Core.List.{List, [], _∷_, _++_}
@@ -8,10 +8,7 @@ use native.Mathlib.Omega.{arith}
 use lib.Dec.{T, ltb}
 use lib.ListN.{length, getD, take, drop, length-append, List·getD-append}
 use lib.Seq.{length-take-le, getD-take, drop-at}
-use Rattle.model.specs.declared.Head.{Head}
 use Rattle.model.specs.declared.Message.{Message}
-use Rattle.model.specs.declared.Answer.{Answer}
-use Rattle.model.specs.Graph.{index-of}
 use Rattle.model.specs.Layout.{Part, Operators, Rides, Index, Parts, Board, mark-places, places, all-parts, some-part, of-parts, exact, copied, board-graph}
 use Rattle.model.specs.Contents.{Contents, slot, entry, put, contents, words}
 use Rattle.model.specs.Refusal.{refused-1, refused-2, first-number, board-short, board-cases, message-cases, message-refusal, preview-refusal}

@@ -39,7 +39,7 @@ use denote.Signature.{typesAt}
 use Rattle.model.specs.declared.Head.{Head}
 use Rattle.model.specs.declared.Message.{Message}
 use Rattle.previews.specs.declared.Previewed.{Previewed}
-use Rattle.walks.proofs.Frame.{locals, at-local, lets, enters, leaves}
+use Rattle.walks.proofs.Frame.{at-local, lets, enters, leaves}
 use Rattle.walks.proofs.Borrow.{spans, reborrows, vars, land-as}
 use Rattle.walks.proofs.Rows.{like, Then, over, Slice, Elems, elems, past, mut-rows, shr-rows, spells, tells, mut-lawfuls, shr-lawfuls, all-said, all-fit, all-go, own-items, tok-items, last-items}
 use Rattle.model.proofs.Head as T
