@@ -72,8 +72,8 @@ fn median(mut numbers: Vec<f64>) -> f64 {
 
 /// The time of one call in microseconds, of each program in each round. The programs take turns, so that in a round all
 /// see the same machine.
-fn measure(calls: usize, programs: &mut [&mut dyn FnMut(); 3]) -> [Vec<f64>; 3] {
-    let mut times = [const { Vec::new() }; 3];
+fn measure<const N: usize>(calls: usize, programs: &mut [&mut dyn FnMut(); N]) -> [Vec<f64>; N] {
+    let mut times = [const { Vec::new() }; N];
     for round in 0..ROUNDS + 2 {
         for (program, times) in programs.iter_mut().zip(&mut times) {
             let begin = Instant::now();

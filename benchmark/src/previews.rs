@@ -61,17 +61,19 @@ impl Words {
 }
 
 /// The microseconds of a preview, a message and a copy, in each round. Preview and message are given the same messages in
-/// the same order, all taken, and equal boards: the spare memory of one preview is the board of the next.
+/// the same order, all taken, and equal boards: the spare memory of one preview is the board of the next. Before them
+/// another board takes the round's messages: whoever meets them first takes longer, by a tenth on a small board.
 fn times(case: &Case) -> [Vec<f64>; 3] {
     eprintln!("measures preview, {} × {}, {} pairs", case.operators, case.rides, case.pairs.len());
     let board = Words::new(case);
     let (mut now, mut spare) = (board.clone(), board.clone());
-    let (mut sent, mut copy) = (board.clone(), board.clone());
-    let (mut to_preview, mut to_send) = (case.messages.iter(), case.messages.iter());
+    let (mut first, mut sent, mut copy) = (board.clone(), board.clone(), board.clone());
+    let [mut to_first, mut to_preview, mut to_send] = [(); 3].map(|_| case.messages.iter());
     let (mut previewed, mut taken) = (0, 0);
-    let times = measure(
+    let [_, preview, message, plain] = measure(
         case.messages.len() / (ROUNDS + 2),
         &mut [
+            &mut || _ = first.message(*to_first.next().unwrap()),
             &mut || {
                 previewed += now.preview(*to_preview.next().unwrap(), &mut spare) as u64;
                 swap(&mut now, &mut spare);
@@ -81,7 +83,7 @@ fn times(case: &Case) -> [Vec<f64>; 3] {
         ],
     );
     assert!(now == sent && previewed == taken && copy == board);
-    times
+    [preview, message, plain]
 }
 
 /// A preview's time over that of a message and a copy: the median of the rounds' ratios.

@@ -59,6 +59,10 @@ pub or-cases {ℓ} : {C : Type ℓ} (a b : Bool) → T (a || b) → (T a → C) 
 or-cases true b t f g = f tt
 or-cases false b t f g = g t
 
+pub or-false : (a : Bool) → (a || false) ≡ a
+or-false true = refl
+or-false false = refl
+
 -- a mark made of a test
 pub bit-test : (b : Bool) → eqb (bit b) 1 ≡ b
 bit-test true = refl

@@ -15,7 +15,7 @@ use Rattle.model.specs.Refusal.{refused-1, refused-2, first-number, boar
 use Rattle.model.specs.Calls.{board-query}
 use Rattle.model.specs.Message.{MessageOutcome, board-after, board-message, board-preview}
 use Rattle.model.specs.Demand.{IsCore, PreviewLaws, PreviewThenQuery}
-use Rattle.model.proofs.Count.{test-false, or-left, or-right}
+use Rattle.model.proofs.Count.{test-false, or-left, or-right, or-false}
 use Rattle.model.proofs.Chain.{first-same, first-here}
 use Rattle.model.proofs.Parts.{long-board}
 use Rattle.model.proofs.Pairs.{pairs-fit}
@@ -49,10 +49,6 @@ module _ (b : Board) (spare : Parts) (long : (p : Part) → places (b .head) p �
       drop-at (take n (b .part p)) _ n e ∙ ap (λ (k : ℕ). drop k (spare p)) e
 
 -- ---- the number
-
-or-false : (t : Bool) → (t || false) ≡ t
-or-false true = refl
-or-false false = refl
 
 module _ (b : Board) (m : Message) (spare : Parts) where
   -- 3, of the spare memory
