@@ -2,7 +2,6 @@
 use mathlib.Core.Path.{_≡_, sym, ap, _∙_, subst}
 use mathlib.Core.List.{List, [], _∷_, _++_, append-nil}
 use Prim.Native.Nat.{ℕ, _≤_}
-use lib.Dec.{T}
 use lib.ListN.{take}
 use lib.Seq.{take-length}
 use Rattle.model.specs.declared.Head.{Head}
@@ -10,13 +9,12 @@ use Rattle.model.specs.declared.Message.{Message}
 use Rattle.model.specs.Layout.{Part, Operators, Rides, Board, places, exact}
 use Rattle.model.specs.Refusal.{message-refusal}
 use Rattle.model.specs.Message.{board-message, board-preview}
-use Rattle.model.proofs.Refusal.{taken-none}
 use Rattle.model.proofs.Contents.{extend, places-of}
 use Rattle.model.proofs.Preview.{preview-none, preview-code, preview-laws}
-use Rattle.delivery.specs.Book.{valid, valid-ones, book, written}
+use Rattle.delivery.specs.Book.{valid-ones, book, written}
 use Rattle.delivery.specs.Demand.{CallsThenPreview}
-use Rattle.delivery.proofs.Latest.{test-valid, AllValid}
-use Rattle.delivery.proofs.Run.{says, valid-in, laid-written, message-written}
+use Rattle.delivery.proofs.Latest.{AllValid}
+use Rattle.delivery.proofs.Run.{says, valid-in, laid-written, taken-valid, message-written}
 use Rattle.delivery.proofs.Build.{table}
 use Rattle.delivery.proofs.Demand.{board-is-book, valid-book}
 
@@ -34,19 +32,13 @@ module _ (h : Head) (es : List Message) where
       λ j. record { head = b .head; part = λ p. each p j }
 
   module _ (few : h .operators ≤ 200) (few′ : h .rides ≤ 60) (all : AllValid h es) (m : Message) (none : message-refusal (written h es) m ≡ 0) where
-    taken-valid : T (valid h m)
-    unfolding written
-    taken-valid =
-        let v = taken-none (written h es) m none .1 in
-        test-valid h m (record { kind-low = v .kind-low; kind-high = v .kind-high; operator = v .operator; ride = v .ride; stamp = v .stamp })
-
     sent-written : board-message (written h es) m .board ≡ written h (es ++ (m ∷ []))
     unfolding valid-ones
     sent-written =
         ap (λ (b : Board). board-message b m .board) (sym (extend-none (written h es))) ∙
         message-written h few few′ (λ p. []) es all m ∙
         extend-none (written h (es ++ valid-ones h (m ∷ []))) ∙
-        ap (λ (x : List Message). written h (es ++ x)) (valid-in h m [] taken-valid)
+        ap (λ (x : List Message). written h (es ++ x)) (valid-in h m [] (taken-valid h few few′ (λ p. []) es all m (ap (λ (b : Board). message-refusal b m) (extend-none (written h es)) ∙ none)))
 
 pub calls-then-preview : CallsThenPreview
 calls-then-preview b start calls m spare e z =

@@ -134,14 +134,18 @@ module _ (h : Head) (few : h .operators ≤ 200) (few′ : h .rides ≤ 60) (mor
           (λ q. subst (λ (x : Slot). said (latest es x) ≡ said (latest fs x)) (sym q) (sym (entry-older h m v es n)))
           (λ k. sym (entry-other h m v es t k))))
 
-    invalid-refused : (T (valid h m) → ⊥) → board-message (lent-board es) m .board ≡ lent-board es
+    -- a message that is taken is valid
+    pub taken-valid : message-refusal (lent-board es) m ≡ 0 → T (valid h m)
     unfolding written
+    taken-valid e =
+        let v = taken-none (lent-board es) m e .1 in
+        test-valid h m (record { kind-low = v .kind-low; kind-high = v .kind-high; operator = v .operator; ride = v .ride; stamp = v .stamp })
+
+    invalid-refused : (T (valid h m) → ⊥) → board-message (lent-board es) m .board ≡ lent-board es
     invalid-refused n = go (message-refusal (lent-board es) m) refl
       where
         go : (k : ℕ) → message-refusal (lent-board es) m ≡ k → board-message (lent-board es) m .board ≡ lent-board es
-        go zero e =
-            let v = taken-none (lent-board es) m e .1 in
-            absurd (n (test-valid h m (record { kind-low = v .kind-low; kind-high = v .kind-high; operator = v .operator; ride = v .ride; stamp = v .stamp })))
+        go zero e = absurd (n (taken-valid e))
         go (suc k) e = ap (λ (x : MessageOutcome). x .board) (message-refused (lent-board es) m k e)
 
     pub message-written : board-message (lent-board es) m .board ≡ lent-board (es ++ valid-ones h (m ∷ []))

@@ -1,5 +1,6 @@
 -- Laws of parts: what holds of each part holds of all, and what is tested of all parts is tested of each. Assumes nothing.
-use mathlib.Core.Bool.{Bool}
+use mathlib.Core.Path.{_≡_, subst}
+use mathlib.Core.Bool.{Bool, false}
 use mathlib.Core.List.{List, [], _∷_}
 use Prim.Native.Nat.{_≤_, _<_}
 use lib.Dec.{T}
@@ -47,6 +48,9 @@ module _ (b : Board) where
   pub board-long : (T (board-short b) → ⊥) → (p : Part) → places (b .head) p ≤ length (b .part p)
   unfolding board-short
   board-long n p = enough (length (b .part p)) (places (b .head) p) (λ t. n (one-part (λ q. refused-3 (places (b .head) q) (b .part q)) p t))
+
+  pub not-short : board-short b ≡ false → (p : Part) → places (b .head) p ≤ length (b .part p)
+  not-short e = board-long (λ t. subst T e t)
 
   pub long-board : ((p : Part) → places (b .head) p ≤ length (b .part p)) → T (board-short b) → ⊥
   unfolding board-short

@@ -123,12 +123,10 @@ module _ (b : Board) (m : Message) (spare : Board) where
       let t = preview-taken e in
       (s .0 ∙ ap (λ (o : MessageOutcome). o .answer) (sym t), s .1 ∙ ap (λ (o : MessageOutcome). exact (o .board)) (sym t))
 
-  refused : board-preview b m spare .answer .code ≢ 0 → board-preview b m spare ≡ record { answer = record { code = preview-refusal b m (spare .part); differ = 0 }; board = spare }
-  refused n = go (preview-refusal b m (spare .part)) refl
-    where
-      go : (k : ℕ) → preview-refusal b m (spare .part) ≡ k → board-preview b m spare ≡ record { answer = record { code = k; differ = 0 }; board = spare }
-      go zero e = absurd (n (preview-code ∙ e))
-      go (suc k) e = preview-refused k e
+  -- refused, with the number at hand
+  pub preview-kept : (k : ℕ) → preview-refusal b m (spare .part) ≡ k → k ≢ 0 → board-preview b m spare ≡ record { answer = record { code = k; differ = 0 }; board = spare }
+  preview-kept zero e n = absurd (n refl)
+  preview-kept (suc k) e n = preview-refused k e
 
 -- a taken message leaves what lies behind the lengths under Layout
 after-behind : (b : Board) (m : Message) (p : Part) → drop (places (b .head) p) (board-after b m .part p) ≡ drop (places (b .head) p) (b .part p)
@@ -166,8 +164,8 @@ preview-laws b m spare =
       on-copy = λ z. preview-taken b m spare (refusal-none b m spare z);
       same-answer = λ z. sent b m spare z .0;
       same-board = λ z. sent b m spare z .1;
-      kept = λ n. ap (λ (o : MessageOutcome). o .board) (refused b m spare n);
-      none-differ = λ n. ap (λ (o : MessageOutcome). o .answer .differ) (refused b m spare n);
+      kept = λ n. ap (λ (o : MessageOutcome). o .board) (preview-kept b m spare _ (sym (preview-code b m spare)) n);
+      none-differ = λ n. ap (λ (o : MessageOutcome). o .answer .differ) (preview-kept b m spare _ (sym (preview-code b m spare)) n);
       behind = behind b m spare;
       same-number = λ s. preview-code b m spare ∙ preview-message b m (spare .part) s ∙ sym (message-code b m);
       short-spare = λ s. preview-code b m spare ∙ preview-short b m (spare .part) s;

@@ -2,8 +2,9 @@
 use borrow.Author.Needs.{needs}
 use native.Mathlib.Omega.{arith}
 use Rattle.model.specs.Layout.{Operators, Rides, Stamps, Index, parts, lent}
+use Rattle.model.proofs.Parts.{not-short}
 use Rattle.pairs.proofs.Place.{product-fits}
-use Rattle.copies.proofs.Copy.{long, all-copied}
+use Rattle.copies.proofs.Copy.{all-copied}
 use Rattle.copies.proofs.copy_board.Statement.{statement}
 use Rattle.copies.proofs.copy_board.Tie as tie
 
@@ -19,17 +20,17 @@ mul-places c = let a = c .before .before .before .before .before .before .before
 copy-requires : tie.Need-copy-requires
 copy-requires c κs = let s = c .before .before .before .before .before .before .before .before .before .before .before in
     let a = s .args in
-    (long (lent (a .head) (a .operators .now) (a .rides .now) (a .stamps .now) (a .index .now)) (s .pre .0) Operators, long (lent (a .head) (a .spare-operators .now) (a .spare-rides .now) (a .spare-stamps .now) (a .spare-index .now)) (s .pre .1) Operators)
+    (not-short (lent (a .head) (a .operators .now) (a .rides .now) (a .stamps .now) (a .index .now)) (s .pre .0) Operators, not-short (lent (a .head) (a .spare-operators .now) (a .spare-rides .now) (a .spare-stamps .now) (a .spare-index .now)) (s .pre .1) Operators)
 
 copy-requires-2 : tie.Need-copy-requires-2
 copy-requires-2 c κs = let s = c .before .before .before .before .before .before .before .before .before .before .before .before .before .before .before in
     let a = s .args in
-    (long (lent (a .head) (a .operators .now) (a .rides .now) (a .stamps .now) (a .index .now)) (s .pre .0) Rides, long (lent (a .head) (a .spare-operators .now) (a .spare-rides .now) (a .spare-stamps .now) (a .spare-index .now)) (s .pre .1) Rides)
+    (not-short (lent (a .head) (a .operators .now) (a .rides .now) (a .stamps .now) (a .index .now)) (s .pre .0) Rides, not-short (lent (a .head) (a .spare-operators .now) (a .spare-rides .now) (a .spare-stamps .now) (a .spare-index .now)) (s .pre .1) Rides)
 
 copy-stamps-requires : tie.Need-copy-stamps-requires
 copy-stamps-requires c κs = let s = c .before .before .before .before .before .before .before .before .before .before .before .before .before .before .before .before .before .before .before in
     let a = s .args in
-    (long (lent (a .head) (a .operators .now) (a .rides .now) (a .stamps .now) (a .index .now)) (s .pre .0) Stamps, long (lent (a .head) (a .spare-operators .now) (a .spare-rides .now) (a .spare-stamps .now) (a .spare-index .now)) (s .pre .1) Stamps)
+    (not-short (lent (a .head) (a .operators .now) (a .rides .now) (a .stamps .now) (a .index .now)) (s .pre .0) Stamps, not-short (lent (a .head) (a .spare-operators .now) (a .spare-rides .now) (a .spare-stamps .now) (a .spare-index .now)) (s .pre .1) Stamps)
 
 add-copy : tie.Need-add-copy
 add-copy c = search needs
@@ -40,7 +41,7 @@ mul-copy c = let a = c .before .before .before .before .before .before .before .
 copy-requires-3 : tie.Need-copy-requires-3
 copy-requires-3 c κs = let s = c .before .before .before .before .before .before .before .before .before .before .before .before .before .before .before .before .before .before .before .before .before .before .before in
     let a = s .args in
-    (long (lent (a .head) (a .operators .now) (a .rides .now) (a .stamps .now) (a .index .now)) (s .pre .0) Index, long (lent (a .head) (a .spare-operators .now) (a .spare-rides .now) (a .spare-stamps .now) (a .spare-index .now)) (s .pre .1) Index)
+    (not-short (lent (a .head) (a .operators .now) (a .rides .now) (a .stamps .now) (a .index .now)) (s .pre .0) Index, not-short (lent (a .head) (a .spare-operators .now) (a .spare-rides .now) (a .spare-stamps .now) (a .spare-index .now)) (s .pre .1) Index)
 
 same-length : tie.Need-same-length
 same-length c = search needs

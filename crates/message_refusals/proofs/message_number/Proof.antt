@@ -1,9 +1,8 @@
 -- `message_refusals::message_number` meets its contract. Assumes nothing.
 use borrow.Author.Needs.{needs}
-use mathlib.Core.Path.{sym, subst, _∙_}
-use lib.Dec.{T}
+use mathlib.Core.Path.{sym, _∙_}
 use Rattle.model.specs.Layout.{Operators, Rides, Stamps, lent}
-use Rattle.model.proofs.Parts.{board-long}
+use Rattle.model.proofs.Parts.{not-short}
 use Rattle.message_refusals.proofs.Message.{message-of}
 use Rattle.message_refusals.proofs.message_number.Statement.{statement}
 use Rattle.message_refusals.proofs.message_number.Tie as tie
@@ -13,7 +12,7 @@ short-board-requires c κs = search needs
 
 number-on-requires : tie.Need-number-on-requires
 number-on-requires c κs = let a = c .before .before .before .before .before .args in
-    λ e. let l = board-long (lent (a .head) (a .operators .now) (a .rides .now) (a .stamps .now) (a .index .now)) (λ t. subst T (sym (c .short-board .ensures) ∙ e) t) in (l Operators, l Rides, l Stamps)
+    λ e. let l = not-short (lent (a .head) (a .operators .now) (a .rides .now) (a .stamps .now) (a .index .now)) (sym (c .short-board .ensures) ∙ e) in (l Operators, l Rides, l Stamps)
 
 returns : tie.Need-returns
 returns c = let a = c .before .before .before .before .before .before .args in

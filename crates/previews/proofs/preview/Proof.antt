@@ -3,7 +3,8 @@ use borrow.Author.Needs.{needs}
 use mathlib.Core.Path.{_≡_, refl, sym, _∙_}
 use native.Mathlib.Omega.{arith}
 use Rattle.model.specs.Layout.{lent}
-use Rattle.previews.proofs.OnCopy.{refused-kept, both-long, copy-none, taken-there}
+use Rattle.model.proofs.Preview.{preview-kept}
+use Rattle.previews.proofs.OnCopy.{both-long, copy-none, taken-there}
 use Rattle.previews.proofs.preview.Statement.{statement}
 use Rattle.previews.proofs.preview.Tie as tie
 
@@ -23,7 +24,7 @@ same-length-4 : tie.Need-same-length-4
 same-length-4 c = refl
 
 returns : tie.Need-returns
-returns c = let a = c .before .before .before .before .before .before .before .before .before .before .before .before .before .before .args in refused-kept (lent (a .head) (a .operators .now) (a .rides .now) (a .stamps .now) (a .index .now)) (a .message) (lent (a .spare-head) (a .spare-operators .now) (a .spare-rides .now) (a .spare-stamps .now) (a .spare-index .now)) _ (c .before .preview-number .ensures) (omega arith)
+returns c = let a = c .before .before .before .before .before .before .before .before .before .before .before .before .before .before .args in sym (preview-kept (lent (a .head) (a .operators .now) (a .rides .now) (a .stamps .now) (a .index .now)) (a .message) (lent (a .spare-head) (a .spare-operators .now) (a .spare-rides .now) (a .spare-stamps .now) (a .spare-index .now)) _ (sym (c .before .preview-number .ensures)) (omega arith))
 
 copy-board-requires : tie.Need-copy-board-requires
 copy-board-requires c κs = let a = c .before .before .before .before .before .before .before .before .before .before .before .before .before .before .before .before .before .before .args in

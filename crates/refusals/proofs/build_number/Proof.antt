@@ -1,14 +1,12 @@
 -- `refusals::build_number` meets its contract: 1 to 5 first, then 9. Assumes nothing.
 use borrow.Author.Needs.{needs}
-use mathlib.Core.Path.{subst}
 use mathlib.Core.Bool.{Bool}
-use lib.Dec.{T}
 use Rattle.model.specs.Refusal.{first-number, table-cases}
 use mathlib.Core.Path.{sym, ap, _∙_}
 use native.Mathlib.Omega.{arith}
 use Rattle.model.specs.Layout.{Operators, Rides, lent}
 use Rattle.refusals.proofs.Chain.{build-table, build-9, build-0}
-use Rattle.model.proofs.Parts.{board-long}
+use Rattle.model.proofs.Parts.{not-short}
 use Rattle.refusals.proofs.build_number.Statement.{statement}
 use Rattle.refusals.proofs.build_number.Tie as tie
 
@@ -18,7 +16,7 @@ short-board-requires c κs = search needs
 table-number-requires : tie.Need-table-number-requires
 table-number-requires c κs = let a = c .before .before .before .before .before .args in
     let b = lent (a .head) (a .operators .now) (a .rides .now) (a .stamps .now) (a .index .now) in
-    λ e. let l = board-long b (λ t. subst T (sym (c .short-board .ensures) ∙ e) t) in (l Operators, l Rides)
+    λ e. let l = not-short b (sym (c .short-board .ensures) ∙ e) in (l Operators, l Rides)
 
 returns : tie.Need-returns
 returns c = let a = c .before .before .before .before .before .before .before .args in
