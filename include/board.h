@@ -15,7 +15,7 @@
  *
  *     uint16_t code = board_build_on(&board, 1);
  *
- *     BoardMessage grant = {BOARD_GRANT, 17, 5, 1700000000};
+ *     BoardMessage grant = {.kind = BOARD_GRANT, .operator_number = 17, .ride = 5, .stamp = 1700000000};
  *     BoardAnswer answer = board_message_on(&board, grant);
  *
  *     BoardCounts counts = board_query_on(&board, 2, 3, marks, BOARD_LENGTH(marks));
@@ -60,8 +60,8 @@ extern "C" {
 #endif
 
 /* The version of this header (docs/CHANGELOG.md), as a number to compare: 1.2.3 is 10203. */
-#define BOARD_VERSION_MAJOR 1
-#define BOARD_VERSION_MINOR 3
+#define BOARD_VERSION_MAJOR 2
+#define BOARD_VERSION_MINOR 0
 #define BOARD_VERSION_PATCH 0
 #define BOARD_VERSION (BOARD_VERSION_MAJOR * 10000 + BOARD_VERSION_MINOR * 100 + BOARD_VERSION_PATCH)
 
@@ -70,6 +70,9 @@ extern "C" {
 #define BOARD_OPERATORS_MOST 200
 #define BOARD_RIDES_MOST 60
 
+/* The largest revision of a message. */
+#define BOARD_REVISION_MOST 255
+
 /* Needed lengths, in places */
 
 /* Each of the two pair arrays. */
@@ -77,6 +80,9 @@ extern "C" {
 
 /* The stamps. */
 #define BOARD_STAMP_PLACES(operators, rides) ((size_t)(operators) * (size_t)(rides))
+
+/* The revisions. */
+#define BOARD_REVISION_PLACES(operators, rides) ((size_t)(operators) * (size_t)(rides))
 
 /* The index: rides rows, each with a level for each operator and then each ride. */
 #define BOARD_INDEX_PLACES(operators, rides) ((size_t)(rides) * ((size_t)(operators) + (size_t)(rides)))
@@ -95,6 +101,9 @@ extern "C" {
 /* The stamp of a pair. */
 #define BOARD_STAMP(rides, operator_number, ride) ((size_t)(operator_number) * (size_t)(rides) + (size_t)(ride))
 
+/* The revision of a pair: the same place of another part. */
+#define BOARD_REVISION(rides, operator_number, ride) BOARD_STAMP(rides, operator_number, ride)
+
 /* The mark of an operator, and of a ride. */
 #define BOARD_OPERATOR_MARK(operator_number) ((size_t)(operator_number))
 #define BOARD_RIDE_MARK(operators, ride) ((size_t)(operators) + (size_t)(ride))
@@ -106,24 +115,25 @@ extern "C" {
 #define BOARD_ROW(operators, rides, alpha) (((size_t)(alpha) - 1) * ((size_t)(operators) + (size_t)(rides)))
 
 /*
- * The numbers of document 01 (docs/SCOPE.md). The lowest one that applies is given; of 1 to 10 and 12 a call checks
- * those named beside it below.
+ * The numbers of documents 01 and 02 (docs/SCOPE.md). A call checks those named beside it below and gives the first one
+ * that applies, in the order 1 to 9, 14, 10, 12.
  */
 enum BoardNumber {
-    BOARD_DONE = 0,               /* done or taken */
-    BOARD_OPERATORS_OVER = 1,     /* operators over 200 */
-    BOARD_RIDES_OVER = 2,         /* rides over 60 */
-    BOARD_PART_SHORT = 3,         /* a lent part is too short */
-    BOARD_PAIRS_OVER = 4,         /* pairs over operators x rides */
-    BOARD_PAIR_MISPLACED = 5,     /* a pair out of range, or not strictly ascending */
-    BOARD_STAMP_MISSING = 6,      /* message: a listed pair has stamp 0 */
-    BOARD_KIND_UNKNOWN = 7,       /* message: kind not 1 or 2 */
-    BOARD_OUT_OF_RANGE = 8,       /* message: operator or ride out of range */
-    BOARD_STAMP_ZERO = 9,         /* message or starting stamp is 0 */
-    BOARD_NOT_LATER = 10,         /* message not later than the pair's last */
-    BOARD_LIMIT_ZERO = 11,        /* retired: never given since 1.2.0 */
-    BOARD_MARK_UNKNOWN = 12,      /* peel: a mark in use is not 0 or 1 */
-    BOARD_INPUT_LENGTH_WRONG = 13 /* program `cover`: input length wrong; no call answers it */
+    BOARD_DONE = 0,                /* done or taken */
+    BOARD_OPERATORS_OVER = 1,      /* operators over 200 */
+    BOARD_RIDES_OVER = 2,          /* rides over 60 */
+    BOARD_PART_SHORT = 3,          /* a lent part is too short */
+    BOARD_PAIRS_OVER = 4,          /* pairs over operators x rides */
+    BOARD_PAIR_MISPLACED = 5,      /* a pair out of range, or not strictly ascending */
+    BOARD_STAMP_MISSING = 6,       /* message: a listed pair has stamp 0 */
+    BOARD_KIND_UNKNOWN = 7,        /* message: kind not 1 or 2 */
+    BOARD_OUT_OF_RANGE = 8,        /* message: operator or ride out of range */
+    BOARD_STAMP_ZERO = 9,          /* message or starting stamp is 0 */
+    BOARD_NOT_LATER = 10,          /* message not later than the pair's last */
+    BOARD_LIMIT_ZERO = 11,         /* retired: never given since 1.2.0 */
+    BOARD_MARK_UNKNOWN = 12,       /* peel: a mark in use is not 0 or 1 */
+    BOARD_INPUT_LENGTH_WRONG = 13, /* program `cover`: input length wrong; no call answers it */
+    BOARD_REVISION_OVER = 14       /* message: revision over 255 */
 };
 
 /* The kinds of a message. */
@@ -153,11 +163,15 @@ typedef struct BoardPeeled {
     uint16_t steps;
 } BoardPeeled;
 
-/* Message: a grant or a withdrawal of one pair. (`operator` is a word that C++ reserves.) */
+/*
+ * Message: a grant or a withdrawal of one pair. The revision, 0 to 255, orders corrections within one stamp.
+ * (`operator` is a word that C++ reserves.)
+ */
 typedef struct BoardMessage {
     uint16_t kind;
     uint16_t operator_number;
     uint16_t ride;
+    uint16_t revision;
     uint32_t stamp;
 } BoardMessage;
 
@@ -189,6 +203,7 @@ BOARD_ASSERT(sizeof(BoardMessage) == 12);
 BOARD_ASSERT(offsetof(BoardMessage, kind) == 0);
 BOARD_ASSERT(offsetof(BoardMessage, operator_number) == 2);
 BOARD_ASSERT(offsetof(BoardMessage, ride) == 4);
+BOARD_ASSERT(offsetof(BoardMessage, revision) == 6);
 BOARD_ASSERT(offsetof(BoardMessage, stamp) == 8);
 BOARD_ASSERT(sizeof(BoardAnswer) == 4);
 BOARD_ASSERT(offsetof(BoardAnswer, code) == 0);
@@ -203,13 +218,13 @@ BOARD_ASSERT(offsetof(BoardAnswer, differ) == 2);
  * place the same pair, strictly ascending by operator and then ride. `start` is the stamp that they count as granted at.
  *
  * Writes zeros into both pair arrays from place `head.pairs` to operators x rides; into the stamps `start` for each
- * listed pair and 0 for every other one; into the index every level.
+ * listed pair and 0 for every other one; into the revisions 0 for every pair; into the index every level.
  *
  * Answers BOARD_DONE, or of 1 to 5 and 9 the lowest that applies. A refusal leaves every lent word as it was.
  */
 uint16_t board_build(BoardHead head, uint16_t *operators, size_t operators_length, uint16_t *rides,
-                     size_t rides_length, uint32_t start, uint32_t *stamps, size_t stamps_length, uint16_t *index,
-                     size_t index_length);
+                     size_t rides_length, uint32_t start, uint32_t *stamps, size_t stamps_length, uint16_t *revisions,
+                     size_t revisions_length, uint16_t *index, size_t index_length);
 
 /*
  * Query: who is in cover (alpha, beta). A limit of 0 is no limit.
@@ -257,19 +272,24 @@ BoardPeeled board_peel(BoardHead head, const uint16_t *operators, size_t operato
 /*
  * Message: takes one grant or withdrawal, if it is later than the last one that the board took for its pair.
  *
- * Reads the whole board and the message. Of two messages for one pair the later has the larger stamp; at equal stamps a
- * withdrawal is later than a grant. Pairs listed at the build count as grants of the starting stamp.
+ * Reads the whole board and the message. Of two messages for one pair the later has the larger stamp; at equal stamps
+ * the larger revision; at both equal a withdrawal is later than a grant. Pairs listed at the build count as grants of
+ * the starting stamp and revision 0. The pair's last has the stamp and the revision that the board holds for it, and is
+ * a grant exactly if the pair is listed. A revision in the board is compared as it stands, also over 255.
  *
- * Writes, where it is taken: the pair's stamp; the pair arrays with the pair added or removed where needed, and zeros
- * up to their end; the head's pair count; and the whole index, whatever words came in. A withdrawal of a pair that was
- * never granted is taken too, for its stamp.
+ * Writes, where it is taken: the pair's stamp and revision; the pair arrays with the pair added or removed where
+ * needed, and zeros up to their end; the head's pair count; and the whole index, whatever words came in. A withdrawal
+ * of a pair that was never granted is taken too, for its stamp and revision.
  *
- * Answers BOARD_DONE with the number of index words that differ before and after, or of 1 to 10 the lowest that
- * applies, with count 0. A refusal leaves every lent word as it was.
+ * Answers BOARD_DONE with the number of index words that differ before and after, or of 1 to 9, 14 and 10, in this
+ * order, the first that applies, with count 0. A refusal leaves every lent word as it was.
+ *
+ * A message is valid if none of 7, 8, 9 and 14 applies to it. After a build and any messages the board is that of the
+ * latest valid message of each pair, in whatever order they came.
  */
 BoardAnswer board_message(BoardHead *head, uint16_t *operators, size_t operators_length, uint16_t *rides,
-                          size_t rides_length, uint32_t *stamps, size_t stamps_length, uint16_t *index,
-                          size_t index_length, BoardMessage message);
+                          size_t rides_length, uint32_t *stamps, size_t stamps_length, uint16_t *revisions,
+                          size_t revisions_length, uint16_t *index, size_t index_length, BoardMessage message);
 
 /*
  * Message list: takes messages in order, each as board_message does.
@@ -283,9 +303,9 @@ BoardAnswer board_message(BoardHead *head, uint16_t *operators, size_t operators
  * refuses the whole list and leaves every lent word as it was, the answer list too.
  */
 uint16_t board_messages(BoardHead *head, uint16_t *operators, size_t operators_length, uint16_t *rides,
-                        size_t rides_length, uint32_t *stamps, size_t stamps_length, uint16_t *index,
-                        size_t index_length, const BoardMessage *messages, size_t messages_length, uint16_t *answers,
-                        size_t answers_length);
+                        size_t rides_length, uint32_t *stamps, size_t stamps_length, uint16_t *revisions,
+                        size_t revisions_length, uint16_t *index, size_t index_length, const BoardMessage *messages,
+                        size_t messages_length, uint16_t *answers, size_t answers_length);
 
 /*
  * Preview: what a message would do, worked out in spare memory. The board is read and never written.
@@ -299,15 +319,16 @@ uint16_t board_messages(BoardHead *head, uint16_t *operators, size_t operators_l
  * words in the board.
  *
  * Answers what board_message would answer: BOARD_DONE with the number of index words that differ before and after, or
- * of 1 to 10 the lowest that applies, with count 0. A spare part that is too short is 3. A refusal leaves every lent
- * word as it was, the spare head too.
+ * of 1 to 9, 14 and 10, in this order, the first that applies, with count 0. A spare part that is too short is 3. A
+ * refusal leaves every lent word as it was, the spare head too.
  */
 BoardAnswer board_preview(BoardHead head, const uint16_t *operators, size_t operators_length, const uint16_t *rides,
-                          size_t rides_length, const uint32_t *stamps, size_t stamps_length, const uint16_t *index,
-                          size_t index_length, BoardMessage message, BoardHead *spare_head, uint16_t *spare_operators,
-                          size_t spare_operators_length, uint16_t *spare_rides, size_t spare_rides_length,
-                          uint32_t *spare_stamps, size_t spare_stamps_length, uint16_t *spare_index,
-                          size_t spare_index_length);
+                          size_t rides_length, const uint32_t *stamps, size_t stamps_length, const uint16_t *revisions,
+                          size_t revisions_length, const uint16_t *index, size_t index_length, BoardMessage message,
+                          BoardHead *spare_head, uint16_t *spare_operators, size_t spare_operators_length,
+                          uint16_t *spare_rides, size_t spare_rides_length, uint32_t *spare_stamps,
+                          size_t spare_stamps_length, uint16_t *spare_revisions, size_t spare_revisions_length,
+                          uint16_t *spare_index, size_t spare_index_length);
 
 /*
  * A board as one thing: its head, and each part with its length. Keep one Board for one board: a copy has a head of its
@@ -321,6 +342,8 @@ typedef struct Board {
     size_t rides_length;
     uint32_t *stamps;
     size_t stamps_length;
+    uint16_t *revisions;
+    size_t revisions_length;
     uint16_t *index;
     size_t index_length;
 } Board;
@@ -329,14 +352,15 @@ typedef struct Board {
  * Declares static storage for the parts of a board, all zeros where no initialiser stands behind it. With one, here for
  * the pairs (0, 5), (3, 5) and (17, 4):
  *
- *     BOARD_STORAGE(memory, 200, 60) = {{0, 3, 17}, {5, 5, 4}, {0}, {0}};
+ *     BOARD_STORAGE(memory, 200, 60) = {{0, 3, 17}, {5, 5, 4}, {0}, {0}, {0}};
  */
-#define BOARD_STORAGE(name, operator_count, ride_count)                                 \
-    static struct {                                                                     \
-        uint16_t operators[BOARD_ARRAY(BOARD_PAIR_PLACES(operator_count, ride_count))]; \
-        uint16_t rides[BOARD_ARRAY(BOARD_PAIR_PLACES(operator_count, ride_count))];     \
-        uint32_t stamps[BOARD_ARRAY(BOARD_STAMP_PLACES(operator_count, ride_count))];   \
-        uint16_t index[BOARD_ARRAY(BOARD_INDEX_PLACES(operator_count, ride_count))];    \
+#define BOARD_STORAGE(name, operator_count, ride_count)                                     \
+    static struct {                                                                         \
+        uint16_t operators[BOARD_ARRAY(BOARD_PAIR_PLACES(operator_count, ride_count))];     \
+        uint16_t rides[BOARD_ARRAY(BOARD_PAIR_PLACES(operator_count, ride_count))];         \
+        uint32_t stamps[BOARD_ARRAY(BOARD_STAMP_PLACES(operator_count, ride_count))];       \
+        uint16_t revisions[BOARD_ARRAY(BOARD_REVISION_PLACES(operator_count, ride_count))]; \
+        uint16_t index[BOARD_ARRAY(BOARD_INDEX_PLACES(operator_count, ride_count))];        \
     } name
 
 /* An array has a place at least, also where a board needs none. */
@@ -349,6 +373,7 @@ typedef struct Board {
         (storage).operators, BOARD_LENGTH((storage).operators),     \
         (storage).rides, BOARD_LENGTH((storage).rides),             \
         (storage).stamps, BOARD_LENGTH((storage).stamps),           \
+        (storage).revisions, BOARD_LENGTH((storage).revisions),     \
         (storage).index, BOARD_LENGTH((storage).index)              \
     }
 
@@ -356,7 +381,8 @@ typedef struct Board {
 
 static inline uint16_t board_build_on(const Board *board, uint32_t start) {
     return board_build(board->head, board->operators, board->operators_length, board->rides, board->rides_length, start,
-                       board->stamps, board->stamps_length, board->index, board->index_length);
+                       board->stamps, board->stamps_length, board->revisions, board->revisions_length, board->index,
+                       board->index_length);
 }
 
 static inline BoardCounts board_query_on(const Board *board, uint16_t alpha, uint16_t beta, uint16_t *marks,
@@ -372,22 +398,24 @@ static inline BoardPeeled board_peel_on(const Board *board, uint16_t *marks, siz
 
 static inline BoardAnswer board_message_on(Board *board, BoardMessage message) {
     return board_message(&board->head, board->operators, board->operators_length, board->rides, board->rides_length,
-                         board->stamps, board->stamps_length, board->index, board->index_length, message);
+                         board->stamps, board->stamps_length, board->revisions, board->revisions_length, board->index,
+                         board->index_length, message);
 }
 
 static inline uint16_t board_messages_on(Board *board, const BoardMessage *messages, size_t messages_length,
                                          uint16_t *answers, size_t answers_length) {
     return board_messages(&board->head, board->operators, board->operators_length, board->rides, board->rides_length,
-                          board->stamps, board->stamps_length, board->index, board->index_length, messages,
-                          messages_length, answers, answers_length);
+                          board->stamps, board->stamps_length, board->revisions, board->revisions_length, board->index,
+                          board->index_length, messages, messages_length, answers, answers_length);
 }
 
 /* `spare` is another Board, over storage of its own. */
 static inline BoardAnswer board_preview_on(const Board *board, BoardMessage message, Board *spare) {
     return board_preview(board->head, board->operators, board->operators_length, board->rides, board->rides_length,
-                         board->stamps, board->stamps_length, board->index, board->index_length, message, &spare->head,
-                         spare->operators, spare->operators_length, spare->rides, spare->rides_length, spare->stamps,
-                         spare->stamps_length, spare->index, spare->index_length);
+                         board->stamps, board->stamps_length, board->revisions, board->revisions_length, board->index,
+                         board->index_length, message, &spare->head, spare->operators, spare->operators_length,
+                         spare->rides, spare->rides_length, spare->stamps, spare->stamps_length, spare->revisions,
+                         spare->revisions_length, spare->index, spare->index_length);
 }
 
 /* The text of a number. */
@@ -421,6 +449,8 @@ static inline const char *board_text(uint16_t code) {
         return "peel: a mark in use is not 0 or 1";
     case BOARD_INPUT_LENGTH_WRONG:
         return "program: input length wrong";
+    case BOARD_REVISION_OVER:
+        return "message: revision over 255";
     default:
         return "no number of the board";
     }

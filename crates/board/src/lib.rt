@@ -11,7 +11,7 @@ use model::Counts;
 use model::Head;
 use model::Peeled;
 
-// Zeroes the tails of the pair arrays, stamps the listed pairs and fills the index.
+// Zeroes the tails of the pair arrays and the revisions, stamps the listed pairs and fills the index.
 #[no_mangle]
 pub extern "C" fn board_build(
     head: Head,
@@ -19,14 +19,15 @@ pub extern "C" fn board_build(
     rides: &mut [u16],
     start: u32,
     stamps: &mut [u32],
+    revisions: &mut [u16],
     index: &mut [u16],
 ) -> u16
     ensures { λ r. ⌜
-        build-left r (lent head (now (operators .exit)) (now (rides .exit)) (now (stamps .exit)) (now (index .exit)))
-        ≡ board-build (lent head (now (operators .entry)) (now (rides .entry)) (now (stamps .entry)) (now (index .entry))) start
+        build-left r (lent head (now (operators .exit)) (now (rides .exit)) (now (stamps .exit)) (now (revisions .exit)) (now (index .exit)))
+        ≡ board-build (lent head (now (operators .entry)) (now (rides .entry)) (now (stamps .entry)) (now (revisions .entry)) (now (index .entry))) start
         ⌝ }
 {
-    builds::build(head, operators, rides, start, stamps, index)
+    builds::build(head, operators, rides, start, stamps, revisions, index)
 }
 
 // Sets a mark to 1 exactly if the level in row alpha is at least beta, and answers the counts of operators and rides marked.

@@ -14,15 +14,18 @@ pub extern "C" fn board_message(
     operators: &mut [u16],
     rides: &mut [u16],
     stamps: &mut [u32],
+    revisions: &mut [u16],
     index: &mut [u16],
     message: Message,
 ) -> Answer
     ensures { λ r. ⌜
-        answered r (now (head .exit)) (now (operators .exit)) (now (rides .exit)) (now (stamps .exit)) (now (index .exit))
-        ≡ board-message (lent (now (head .entry)) (now (operators .entry)) (now (rides .entry)) (now (stamps .entry)) (now (index .entry))) message
+        answered r (lent (now (head .exit)) (now (operators .exit)) (now (rides .exit)) (now (stamps .exit)) (now (revisions .exit)) (now (index .exit)))
+        ≡ board-message
+        (lent (now (head .entry)) (now (operators .entry)) (now (rides .entry)) (now (stamps .entry)) (now (revisions .entry)) (now (index .entry)))
+        message
         ⌝ }
 {
-    let d = messages::deliver(*head, message, operators, rides, stamps, index);
+    let d = messages::deliver(*head, message, operators, rides, stamps, revisions, index);
     head.pairs = d.pairs;
     Answer {
         code: d.code,
@@ -37,13 +40,16 @@ pub extern "C" fn board_messages(
     operators: &mut [u16],
     rides: &mut [u16],
     stamps: &mut [u32],
+    revisions: &mut [u16],
     index: &mut [u16],
     messages: &[Message],
     answers: &mut [u16],
 ) -> u16
     ensures { λ r. ⌜
-        listed-out r (now (head .exit)) (now (operators .exit)) (now (rides .exit)) (now (stamps .exit)) (now (index .exit)) (now (answers .exit))
-        ≡ board-messages (lent (now (head .entry)) (now (operators .entry)) (now (rides .entry)) (now (stamps .entry)) (now (index .entry)))
+        listed-out r (lent (now (head .exit)) (now (operators .exit)) (now (rides .exit)) (now (stamps .exit)) (now (revisions .exit)) (now (index .exit)))
+        (now (answers .exit))
+        ≡ board-messages
+        (lent (now (head .entry)) (now (operators .entry)) (now (rides .entry)) (now (stamps .entry)) (now (revisions .entry)) (now (index .entry)))
         (now (messages .entry)) (now (answers .entry))
         ⌝ }
 {
@@ -53,6 +59,7 @@ pub extern "C" fn board_messages(
         operators,
         rides,
         stamps,
+        revisions,
         index,
         answers,
     );
@@ -68,6 +75,7 @@ pub extern "C" fn board_messages(
             operators,
             rides,
             stamps,
+            revisions,
             index,
             answers,
         );

@@ -14,18 +14,23 @@ pub extern "C" fn board_preview(
     operators: &[u16],
     rides: &[u16],
     stamps: &[u32],
+    revisions: &[u16],
     index: &[u16],
     message: Message,
     spare_head: &mut Head,
     spare_operators: &mut [u16],
     spare_rides: &mut [u16],
     spare_stamps: &mut [u32],
+    spare_revisions: &mut [u16],
     spare_index: &mut [u16],
 ) -> Answer
     ensures { λ r. ⌜
-        answered r (now («spare_head» .exit)) (now («spare_operators» .exit)) (now («spare_rides» .exit)) (now («spare_stamps» .exit)) (now («spare_index» .exit))
-        ≡ board-preview (lent head (now (operators .entry)) (now (rides .entry)) (now (stamps .entry)) (now (index .entry))) message
-        (lent (now («spare_head» .entry)) (now («spare_operators» .entry)) (now («spare_rides» .entry)) (now («spare_stamps» .entry)) (now («spare_index» .entry)))
+        answered r
+        (lent (now («spare_head» .exit)) (now («spare_operators» .exit)) (now («spare_rides» .exit)) (now («spare_stamps» .exit)) (now («spare_revisions» .exit))
+        (now («spare_index» .exit)))
+        ≡ board-preview (lent head (now (operators .entry)) (now (rides .entry)) (now (stamps .entry)) (now (revisions .entry)) (now (index .entry))) message
+        (lent (now («spare_head» .entry)) (now («spare_operators» .entry)) (now («spare_rides» .entry)) (now («spare_stamps» .entry)) (now («spare_revisions» .entry))
+        (now («spare_index» .entry)))
         ⌝ }
 {
     let p = previews::preview(
@@ -35,10 +40,12 @@ pub extern "C" fn board_preview(
         operators,
         rides,
         stamps,
+        revisions,
         index,
         spare_operators,
         spare_rides,
         spare_stamps,
+        spare_revisions,
         spare_index,
     );
     *spare_head = p.head;

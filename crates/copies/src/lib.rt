@@ -11,20 +11,24 @@ pub fn copy_board(
     operators: &[u16],
     rides: &[u16],
     stamps: &[u32],
+    revisions: &[u16],
     index: &[u16],
     spare_operators: &mut [u16],
     spare_rides: &mut [u16],
     spare_stamps: &mut [u32],
+    spare_revisions: &mut [u16],
     spare_index: &mut [u16],
 )
     requires { ⌜
-        (board-short (lent head (now operators) (now rides) (now stamps) (now index)) ≡ false) ×
-        (board-short (lent head (now «spare_operators») (now «spare_rides») (now «spare_stamps») (now «spare_index»)) ≡ false)
+        (board-short (lent head (now operators) (now rides) (now stamps) (now revisions) (now index)) ≡ false) ×
+        (board-short (lent head (now «spare_operators») (now «spare_rides») (now «spare_stamps») (now «spare_revisions») (now «spare_index»)) ≡ false)
         ⌝ }
     ensures { λ _. ⌜
-        lent head (now («spare_operators» .exit)) (now («spare_rides» .exit)) (now («spare_stamps» .exit)) (now («spare_index» .exit))
-        ≡ copied (lent head (now (operators .entry)) (now (rides .entry)) (now (stamps .entry)) (now (index .entry)))
-        (parts (now («spare_operators» .entry)) (now («spare_rides» .entry)) (now («spare_stamps» .entry)) (now («spare_index» .entry)))
+        lent head (now («spare_operators» .exit)) (now («spare_rides» .exit)) (now («spare_stamps» .exit)) (now («spare_revisions» .exit))
+        (now («spare_index» .exit))
+        ≡ copied (lent head (now (operators .entry)) (now (rides .entry)) (now (stamps .entry)) (now (revisions .entry)) (now (index .entry)))
+        (parts (now («spare_operators» .entry)) (now («spare_rides» .entry)) (now («spare_stamps» .entry)) (now («spare_revisions» .entry))
+        (now («spare_index» .entry)))
         ⌝ }
 {
     let n = head.operators as usize;
@@ -33,5 +37,6 @@ pub fn copy_board(
     words::copy(operators, spare_operators, places);
     words::copy(rides, spare_rides, places);
     words::copy_stamps(stamps, spare_stamps, places);
+    words::copy(revisions, spare_revisions, places);
     words::copy(index, spare_index, m * (n + m));
 }

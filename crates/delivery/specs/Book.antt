@@ -1,15 +1,15 @@
 -- Document 01, Book: the entries, and the board worked out from them. No answer and no word of the board comes in.
-use mathlib.Core.Bool.{Bool, true, false, _||_, not}
+use mathlib.Core.Bool.{Bool, true, false, _||_}
 use mathlib.Core.List.{List, [], _∷_, _++_}
 use mathlib.Core.Option.{Option, none, some}
 use Prim.Native.Nat.{ℕ, zero, suc, _+_, min}
-use lib.Dec.{ltb}
+use lib.Dec.{ltb, eqb}
 use lib.ListN.{length, getD}
 use Rattle.model.specs.declared.Head.{Head}
 use Rattle.model.specs.declared.Message.{Message}
 use Rattle.model.specs.Layout.{Board, places, all-parts, some-part}
 use Rattle.model.specs.Contents.{Slot, same-slot, Entry, later, slot, entry, unheard, board-of}
-use Rattle.model.specs.Refusal.{refused-7, refused-8, refused-9}
+use Rattle.model.specs.Refusal.{first-number, valid-cases}
 use Rattle.delivery.specs.Calls.{Lent, Lending, Call, sent}
 
 -- the length of what is lent of a part that has so many places
@@ -27,9 +27,9 @@ unfoldable pub too-short : Head → Call → Bool
 too-short h (Call.message l m) = parts-short h l
 too-short h (Call.messages l ms answers) = parts-short h l || ltb (length answers) (length ms)
 
--- a message is valid if 7, 8 and 9 don't apply
+-- a message is valid if none of 7, 8, 9 and 14 applies
 unfoldable pub valid : Head → Message → Bool
-valid h m = not (refused-7 m || refused-8 h m || refused-9 (m .stamp))
+valid h m = eqb (first-number (valid-cases h m)) 0
 
 -- the messages that are valid
 unfoldable pub valid-ones : Head → List Message → List Message
@@ -45,12 +45,12 @@ unfoldable pub entries : Head → List Call → List Message
 entries h [] = []
 entries h (c ∷ cs) = entered h c ++ entries h cs
 
--- the entries after the build: a grant of the starting stamp for each of n listed pairs
+-- the entries after the build: a grant of the starting stamp and revision 0 for each of n listed pairs
 unfoldable pub grants : ℕ → List ℕ → List ℕ → ℕ → List Message
 grants zero operators rides start = []
 grants (suc n) operators rides start =
     grants n operators rides start ++
-    (record { kind = 1; operator = getD operators n 0; ride = getD rides n 0; stamp = start } ∷ [])
+    (record { kind = 1; operator = getD operators n 0; ride = getD rides n 0; revision = 0; stamp = start } ∷ [])
 
 -- Book: the entries after a list of calls, from the pair table, the starting stamp and the calls; an entry is a message
 unfoldable pub book : Head → List ℕ → List ℕ → ℕ → List Call → List Message
@@ -71,6 +71,6 @@ abbrev pub said : Option Message → Entry
 said none = unheard
 said (some e) = entry e
 
--- the board worked out from a book: a pair with an entry has its latest entry's stamp, and is listed exactly if that is a grant
+-- the board worked out from a book: a pair with an entry has its latest entry's stamp and revision, and is listed exactly if that is a grant
 unfoldable pub written : Head → List Message → Board
 written h es = board-of h (λ t. said (latest es t))

@@ -38,12 +38,12 @@ pub record Latest (es : List Message) (t : Slot) (e : Message) : Type 0 where
   pub about : slot e ≡ t
   pub last : (f : Message) → List·Memᴰ f es → slot f ≡ t → T (later (entry f) (entry e)) → ⊥
 
--- the book's latest entry is one, where there is none the slot has no entry, and valid entries leave no choice of kind and stamp
+-- the book's latest entry is one, where there is none the slot has no entry, and valid entries leave no choice of kind, stamp and revision
 pub record LatestLaws : Type 0 where
   pub found : (es : List Message) (t : Slot) (e : Message) → latest es t ≡ some e → Latest es t e
   pub missing : (es : List Message) (t : Slot) → latest es t ≡ none → (e : Message) → List·Memᴰ e es → slot e ≡ t → ⊥
   pub only : (h : Head) (es : List Message) (t : Slot) (e f : Message) → ((m : Message) → List·Memᴰ m es → T (valid h m)) → Latest es t e → Latest es t f →
-      (e .kind ≡ f .kind) × (e .stamp ≡ f .stamp)
+      (e .kind ≡ f .kind) × (e .stamp ≡ f .stamp) × (e .revision ≡ f .revision)
 
 -- every entry of a book is valid
 abbrev pub BookValid : Type 0

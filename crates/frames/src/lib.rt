@@ -96,7 +96,8 @@ pub fn message_at(frame: &[u8], at: usize) -> Message {
         kind: word(frame, at),
         operator: word(frame, past(at, 1)),
         ride: word(frame, past(at, 2)),
-        stamp: long(frame, past(at, 3)),
+        revision: word(frame, past(at, 3)),
+        stamp: long(frame, past(at, 4)),
     }
 }
 

@@ -5,9 +5,8 @@ use mathlib.Core.List.{List, [], _∷_}
 use Prim.Native.Nat.{ℕ, zero, suc, _+_}
 use lib.Dec.{eqb}
 use lib.ListN.{set}
-use Rattle.model.specs.declared.Head.{Head}
 use Rattle.model.specs.declared.Message.{Message}
-use Rattle.model.specs.Layout.{Operators, Rides, Stamps, Index, Board, lent, board-graph}
+use Rattle.model.specs.Layout.{Operators, Rides, Stamps, Revisions, Index, Board, lent, board-graph}
 use Rattle.model.specs.Refusal.{message-refusal}
 use Rattle.model.specs.Message.{board-after, board-message, ListOutcome}
 use Rattle.endings.specs.Ending.{filled-index}
@@ -15,7 +14,7 @@ use Rattle.lists.specs.declared.Turns.{Turns}
 
 -- the board with other words in its index
 abbrev pub with-index : Board → List ℕ → Board
-with-index b index = lent (b .head) (b .part Operators) (b .part Rides) (b .part Stamps) index
+with-index b index = lent (b .head) (b .part Operators) (b .part Rides) (b .part Stamps) (b .part Revisions) index
 
 -- the board once a message is entered, its index as it was
 unfoldable pub entered : Board → Message → Board
@@ -44,8 +43,3 @@ turns n (m ∷ ms) at b answers =
 -- a list's number, and how many of its messages have a turn: all of them, or none of a refused list
 abbrev pub turns-of : ℕ → ℕ → Turns
 turns-of code messages = record { code = code; turns = elim code [ zero ↦ messages | suc k ↦ 0 ] }
-
--- what a turn leaves, as an outcome
-abbrev pub left-by : Head → List ℕ → List ℕ → List ℕ → List ℕ → List ℕ → ListOutcome
-left-by h operators rides stamps index answers =
-    record { code = 0; board = lent h operators rides stamps index; answers = answers }

@@ -3,8 +3,9 @@ ghost use mathlib.Core.Path.{_≡_};
 ghost use Prim.Native.Nat.{_<_};
 ghost use Rattle.model.specs.Layout.{lent};
 ghost use Rattle.model.specs.Refusal.{list-refusal};
+ghost use Rattle.model.specs.Outcome.{listed-out};
 ghost use Rattle.entries.specs.Enter.{with-pairs};
-ghost use Rattle.lists.specs.Once.{turns-of, left-by, turned};
+ghost use Rattle.lists.specs.Once.{turns-of, turned};
 use model::Head;
 use model::Message;
 
@@ -21,14 +22,15 @@ pub fn list_turns(
     operators: &[u16],
     rides: &[u16],
     stamps: &[u32],
+    revisions: &[u16],
     index: &[u16],
     answers: &[u16],
 ) -> Turns
     ensures { λ r. ⌜
         r
         ≡ turns-of
-        (list-refusal (lent head (now (operators .entry)) (now (rides .entry)) (now (stamps .entry)) (now (index .entry))) messages
-        (now (answers .entry))) messages
+        (list-refusal (lent head (now (operators .entry)) (now (rides .entry)) (now (stamps .entry)) (now (revisions .entry)) (now (index .entry)))
+        messages (now (answers .entry))) messages
         ⌝ }
 {
     let code = message_refusals::list_number(
@@ -37,6 +39,7 @@ pub fn list_turns(
         operators,
         rides,
         stamps,
+        revisions,
         index,
         answers,
     );
@@ -58,17 +61,19 @@ pub fn turn(
     operators: &mut [u16],
     rides: &mut [u16],
     stamps: &mut [u32],
+    revisions: &mut [u16],
     index: &mut [u16],
     answers: &mut [u16],
 ) -> u16
-    requires { ⌜ (list-refusal (lent head (now operators) (now rides) (now stamps) (now index)) n (now answers) ≡ 0) × (at < n) ⌝ }
+    requires { ⌜ (list-refusal (lent head (now operators) (now rides) (now stamps) (now revisions) (now index)) n (now answers) ≡ 0) × (at < n) ⌝ }
     ensures { λ r. ⌜
-        left-by (with-pairs head r) (now (operators .exit)) (now (rides .exit)) (now (stamps .exit)) (now (index .exit)) (now (answers .exit))
-        ≡ turned n (lent head (now (operators .entry)) (now (rides .entry)) (now (stamps .entry)) (now (index .entry))) message at
+        listed-out 0 (lent (with-pairs head r) (now (operators .exit)) (now (rides .exit)) (now (stamps .exit)) (now (revisions .exit)) (now (index .exit)))
+        (now (answers .exit))
+        ≡ turned n (lent head (now (operators .entry)) (now (rides .entry)) (now (stamps .entry)) (now (revisions .entry)) (now (index .entry))) message at
         (now (answers .entry))
         ⌝ }
 {
-    let entered = entries::enter_valid(head, message, operators, rides, stamps);
+    let entered = entries::enter_valid(head, message, operators, rides, stamps, revisions);
     answers[at] = entered.code;
     let next = Head {
         operators: head.operators,

@@ -1,11 +1,11 @@
 // Document 01's numbers of a message, a preview and a message list: the first that applies, 0 if none does.
 ghost use mathlib.Core.Path.{_≡_};
 ghost use mathlib.Core.Bool.{false, _||_};
-ghost use mathlib.Core.List.{List, [], _∷_, _++_};
+ghost use mathlib.Core.List.{List, _++_};
 ghost use Prim.Native.Nat.{ℕ, _≤_};
 ghost use lib.ListN.{length};
 ghost use Rattle.model.specs.Layout.{parts, lent, pair-places};
-ghost use Rattle.model.specs.Refusal.{refused-3, refused-7, refused-8, refused-9, board-short, first-number, board-cases, message-cases};
+ghost use Rattle.model.specs.Refusal.{refused-3, board-short, first-number, board-cases, valid-cases, message-cases};
 ghost use Rattle.model.specs.Refusal.{message-refusal, preview-refusal, list-refusal};
 ghost use Rattle.pairs.specs.Accepted.{AcceptedPairs};
 use model::Head;
@@ -20,8 +20,8 @@ fn board_number(head: Head, short: bool, operators: &[u16], rides: &[u16], stamp
         (pair-places head ≤ length (now stamps)))
         ⌝ }
     ensures { λ r. ⌜
-        ((index : List ℕ) → r ≡ first-number
-        (board-cases (lent head (now (operators .entry)) (now (rides .entry)) (now (stamps .entry)) index) short))
+        ((revisions index : List ℕ) → r ≡ first-number
+        (board-cases (lent head (now (operators .entry)) (now (rides .entry)) (now (stamps .entry)) revisions index) short))
         ⌝ }
 {
     let number = table_number(head, short, operators, rides);
@@ -34,9 +34,9 @@ fn board_number(head: Head, short: bool, operators: &[u16], rides: &[u16], stamp
     0
 }
 
-// 7 to 9 of a message: 0 if it is valid.
+// 7 to 9 and 14 of a message: 0 if it is valid.
 fn valid_number(head: Head, message: Message) -> u16
-    ensures { λ r. ⌜ r ≡ first-number ((7, refused-7 message) ∷ (8, refused-8 head message) ∷ (9, refused-9 (message .stamp)) ∷ []) ⌝ }
+    ensures { λ r. ⌜ r ≡ first-number (valid-cases head message) ⌝ }
 {
     if message.kind == 0 {
         return 7;
@@ -53,34 +53,40 @@ fn valid_number(head: Head, message: Message) -> u16
     if message.stamp == 0 {
         return 9;
     }
+    if 255 < message.revision {
+        return 14;
+    }
     0
 }
 
-// 7 to 10 of a message, on a board to which 1 to 6 do not apply.
+// 7 to 9, 14 and 10 of a message, on a board to which 1 to 6 do not apply.
 pub fn entry_number(
     head: Head,
     message: Message,
     operators: &[u16],
     rides: &[u16],
     stamps: &[u32],
+    revisions: &[u16],
 ) -> u16
-    requires { ⌜ AcceptedPairs head (now operators) (now rides) × (pair-places head ≤ length (now stamps)) ⌝ }
+    requires { ⌜
+        AcceptedPairs head (now operators) (now rides) × (pair-places head ≤ length (now stamps)) × (pair-places head ≤ length (now revisions))
+        ⌝ }
     ensures { λ r. ⌜
         ((index : List ℕ) → r ≡ first-number
-        (message-cases (lent head (now (operators .entry)) (now (rides .entry)) (now (stamps .entry)) index) message))
+        (message-cases (lent head (now (operators .entry)) (now (rides .entry)) (now (stamps .entry)) (now (revisions .entry)) index) message))
         ⌝ }
 {
     let number = valid_number(head, message);
     if number != 0 {
         return number;
     }
-    if stamps::not_later(head, message, operators, rides, stamps) {
+    if stamps::not_later(head, message, operators, rides, stamps, revisions) {
         return 10;
     }
     0
 }
 
-// 1 to 10 of a message on a board; short tells whether a lent part is too short.
+// 1 to 9, 14 and 10 of a message on a board; short tells whether a lent part is too short.
 fn number_on(
     head: Head,
     message: Message,
@@ -88,37 +94,42 @@ fn number_on(
     operators: &[u16],
     rides: &[u16],
     stamps: &[u32],
+    revisions: &[u16],
 ) -> u16
     requires { ⌜
         (short ≡ false → (pair-places head ≤ length (now operators)) × (pair-places head ≤ length (now rides)) ×
-        (pair-places head ≤ length (now stamps)))
+        (pair-places head ≤ length (now stamps)) × (pair-places head ≤ length (now revisions)))
         ⌝ }
     ensures { λ r. ⌜
         ((index : List ℕ) → r ≡ first-number
-        (board-cases (lent head (now (operators .entry)) (now (rides .entry)) (now (stamps .entry)) index) short ++ message-cases
-        (lent head (now (operators .entry)) (now (rides .entry)) (now (stamps .entry)) index) message))
+        (board-cases (lent head (now (operators .entry)) (now (rides .entry)) (now (stamps .entry)) (now (revisions .entry)) index) short ++
+        message-cases (lent head (now (operators .entry)) (now (rides .entry)) (now (stamps .entry)) (now (revisions .entry)) index) message))
         ⌝ }
 {
     let number = board_number(head, short, operators, rides, stamps);
     if number != 0 {
         return number;
     }
-    entry_number(head, message, operators, rides, stamps)
+    entry_number(head, message, operators, rides, stamps, revisions)
 }
 
-// 1 to 10 of a message.
+// 1 to 9, 14 and 10 of a message.
 pub fn message_number(
     head: Head,
     message: Message,
     operators: &[u16],
     rides: &[u16],
     stamps: &[u32],
+    revisions: &[u16],
     index: &[u16],
 ) -> u16
-    ensures { λ r. ⌜ r ≡ message-refusal (lent head (now (operators .entry)) (now (rides .entry)) (now (stamps .entry)) (now (index .entry))) message ⌝ }
+    ensures { λ r. ⌜
+        r
+        ≡ message-refusal (lent head (now (operators .entry)) (now (rides .entry)) (now (stamps .entry)) (now (revisions .entry)) (now (index .entry))) message
+        ⌝ }
 {
-    let short = short_board(head, operators, rides, stamps, index);
-    number_on(head, message, short, operators, rides, stamps)
+    let short = short_board(head, operators, rides, stamps, revisions, index);
+    number_on(head, message, short, operators, rides, stamps, revisions)
 }
 
 // Whether a part of a board, or one of the spare memory for it, is too short.
@@ -127,20 +138,24 @@ fn short_preview(
     operators: &[u16],
     rides: &[u16],
     stamps: &[u32],
+    revisions: &[u16],
     index: &[u16],
     spare_operators: &[u16],
     spare_rides: &[u16],
     spare_stamps: &[u32],
+    spare_revisions: &[u16],
     spare_index: &[u16],
 ) -> bool
     ensures { λ r. ⌜
         r
         ≡
-        (board-short (lent head (now (operators .entry)) (now (rides .entry)) (now (stamps .entry)) (now (index .entry))) || board-short
-        (lent head (now («spare_operators» .entry)) (now («spare_rides» .entry)) (now («spare_stamps» .entry)) (now («spare_index» .entry))))
+        (board-short (lent head (now (operators .entry)) (now (rides .entry)) (now (stamps .entry)) (now (revisions .entry)) (now (index .entry))) ||
+        board-short
+        (lent head (now («spare_operators» .entry)) (now («spare_rides» .entry)) (now («spare_stamps» .entry)) (now («spare_revisions» .entry))
+        (now («spare_index» .entry))))
         ⌝ }
 {
-    if short_board(head, operators, rides, stamps, index) {
+    if short_board(head, operators, rides, stamps, revisions, index) {
         return true;
     }
     short_board(
@@ -148,27 +163,31 @@ fn short_preview(
         spare_operators,
         spare_rides,
         spare_stamps,
+        spare_revisions,
         spare_index,
     )
 }
 
-// 1 to 10 of a preview.
+// 1 to 9, 14 and 10 of a preview.
 pub fn preview_number(
     head: Head,
     message: Message,
     operators: &[u16],
     rides: &[u16],
     stamps: &[u32],
+    revisions: &[u16],
     index: &[u16],
     spare_operators: &[u16],
     spare_rides: &[u16],
     spare_stamps: &[u32],
+    spare_revisions: &[u16],
     spare_index: &[u16],
 ) -> u16
     ensures { λ r. ⌜
         r
-        ≡ preview-refusal (lent head (now (operators .entry)) (now (rides .entry)) (now (stamps .entry)) (now (index .entry))) message
-        (parts (now («spare_operators» .entry)) (now («spare_rides» .entry)) (now («spare_stamps» .entry)) (now («spare_index» .entry)))
+        ≡ preview-refusal (lent head (now (operators .entry)) (now (rides .entry)) (now (stamps .entry)) (now (revisions .entry)) (now (index .entry))) message
+        (parts (now («spare_operators» .entry)) (now («spare_rides» .entry)) (now («spare_stamps» .entry)) (now («spare_revisions» .entry))
+        (now («spare_index» .entry)))
         ⌝ }
 {
     let short = short_preview(
@@ -176,13 +195,15 @@ pub fn preview_number(
         operators,
         rides,
         stamps,
+        revisions,
         index,
         spare_operators,
         spare_rides,
         spare_stamps,
+        spare_revisions,
         spare_index,
     );
-    number_on(head, message, short, operators, rides, stamps)
+    number_on(head, message, short, operators, rides, stamps, revisions)
 }
 
 // Whether a part of a board is too short, or the answer list is shorter than the message list.
@@ -192,17 +213,18 @@ fn short_list(
     operators: &[u16],
     rides: &[u16],
     stamps: &[u32],
+    revisions: &[u16],
     index: &[u16],
     answers: &[u16],
 ) -> bool
     ensures { λ r. ⌜
         r
         ≡
-        (board-short (lent head (now (operators .entry)) (now (rides .entry)) (now (stamps .entry)) (now (index .entry))) || refused-3 messages
-        (now (answers .entry)))
+        (board-short (lent head (now (operators .entry)) (now (rides .entry)) (now (stamps .entry)) (now (revisions .entry)) (now (index .entry))) ||
+        refused-3 messages (now (answers .entry)))
         ⌝ }
 {
-    if short_board(head, operators, rides, stamps, index) {
+    if short_board(head, operators, rides, stamps, revisions, index) {
         return true;
     }
     answers.len() < messages
@@ -215,15 +237,25 @@ pub fn list_number(
     operators: &[u16],
     rides: &[u16],
     stamps: &[u32],
+    revisions: &[u16],
     index: &[u16],
     answers: &[u16],
 ) -> u16
     ensures { λ r. ⌜
         r
-        ≡ list-refusal (lent head (now (operators .entry)) (now (rides .entry)) (now (stamps .entry)) (now (index .entry))) messages
+        ≡ list-refusal (lent head (now (operators .entry)) (now (rides .entry)) (now (stamps .entry)) (now (revisions .entry)) (now (index .entry))) messages
         (now (answers .entry))
         ⌝ }
 {
-    let short = short_list(head, messages, operators, rides, stamps, index, answers);
+    let short = short_list(
+        head,
+        messages,
+        operators,
+        rides,
+        stamps,
+        revisions,
+        index,
+        answers,
+    );
     board_number(head, short, operators, rides, stamps)
 }

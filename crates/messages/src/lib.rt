@@ -14,14 +14,23 @@ pub fn deliver(
     operators: &mut [u16],
     rides: &mut [u16],
     stamps: &mut [u32],
+    revisions: &mut [u16],
     index: &mut [u16],
 ) -> Delivered
     ensures { λ r. ⌜
-        outcome-of head r (now (operators .exit)) (now (rides .exit)) (now (stamps .exit)) (now (index .exit))
-        ≡ board-message (lent head (now (operators .entry)) (now (rides .entry)) (now (stamps .entry)) (now (index .entry))) message
+        outcome-of r (lent head (now (operators .exit)) (now (rides .exit)) (now (stamps .exit)) (now (revisions .exit)) (now (index .exit)))
+        ≡ board-message (lent head (now (operators .entry)) (now (rides .entry)) (now (stamps .entry)) (now (revisions .entry)) (now (index .entry))) message
         ⌝ }
 {
-    let number = message_refusals::message_number(head, message, operators, rides, stamps, index);
+    let number = message_refusals::message_number(
+        head,
+        message,
+        operators,
+        rides,
+        stamps,
+        revisions,
+        index,
+    );
     if number != 0 {
         return Delivered {
             code: number,
@@ -29,5 +38,5 @@ pub fn deliver(
             pairs: head.pairs,
         };
     }
-    taking::take(head, message, operators, rides, stamps, index)
+    taking::take(head, message, operators, rides, stamps, revisions, index)
 }

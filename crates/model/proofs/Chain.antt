@@ -5,7 +5,7 @@ use mathlib.Core.Bool.{Bool, true, false}
 use mathlib.Core.List.{List, [], _∷_, _++_}
 use Prim.Native.Nat.{ℕ, suc, _≤_, _<_}
 use native.Mathlib.Omega.{arith}
-use native.Mathlib.Decide.{decLe}
+use native.Mathlib.Decide.{decLe, ℕ-discrete}
 use lib.Dec.{T, ltb, ltb→lt, lt→ltb}
 use Rattle.model.specs.Refusal.{first-number}
 use Rattle.model.proofs.Count.{by-test, test-true, test-false}
@@ -30,6 +30,11 @@ first-same k t t′ cs cs′ e rest =
     by-test t
     (λ a. first-here k t cs a ∙ sym (first-here k t′ cs′ (subst T e a)))
     (λ n. first-skip k t cs n ∙ rest n ∙ sym (first-skip k t′ cs′ (λ a. n (subst T (sym e) a))))
+
+-- chains with the same numbers in front are alike where the others are, if none of those in front applies
+pub behind-same : (ds ds′ cs : List (ℕ × Bool)) → (first-number cs ≡ 0 → first-number ds ≡ first-number ds′) → first-number (cs ++ ds) ≡ first-number (cs ++ ds′)
+behind-same ds ds′ [] rest = rest first-nil
+behind-same ds ds′ (c ∷ cs) rest = first-same (c .0) (c .1) (c .1) (cs ++ ds) (cs ++ ds′) refl (λ n. behind-same ds ds′ cs (λ e. rest (first-skip (c .0) (c .1) cs n ∙ e)))
 
 -- where none applies, the first does not, and none of the others
 pub first-none : (k : ℕ) (t : Bool) (cs : List (ℕ × Bool)) → first-number ((suc k, t) ∷ cs) ≡ 0 → (T t → ⊥) × (first-number cs ≡ 0)
@@ -71,3 +76,11 @@ module _ (ds : List (ℕ × Bool)) where
       by-test (c .1)
       (λ t. absurd (let q : c .0 ≡ 0 = rw (test-true (c .1) t, first-number) at e in let z : ⊥ = omega (arith, p .0) in z))
       (λ f. rw (test-false (c .1) f, first-number) (first-behind cs (p .1) (rw (test-false (c .1) f, first-number) at e)))
+
+  -- where none of all applies, none of the first does, and none of the others
+  pub first-split : (cs : List (ℕ × Bool)) → Positive cs → first-number (cs ++ ds) ≡ 0 → (first-number cs ≡ 0) × (first-number ds ≡ 0)
+  first-split cs p e =
+      elim (ℕ-discrete (first-number cs) 0) [
+        | yes z ↦ (z, sym (first-behind cs p z) ∙ e)
+        | no n ↦ absurd (n (sym (first-front cs p n) ∙ e))
+      ]

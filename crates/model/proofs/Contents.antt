@@ -11,8 +11,8 @@ use lib.Seq.{take-at, drop-at}
 use Rattle.model.specs.declared.Head.{Head}
 use Rattle.model.specs.Count.{rows}
 use Rattle.model.specs.Graph.{nodes, level, index-of}
-use Rattle.model.specs.Layout.{Part, Operators, Rides, Stamps, Index, Parts, Board, pair-places, places, over, onto, exact, sized, board-graph}
-use Rattle.model.specs.Contents.{Slot, Pair, same-slot, Entry, Contents, put, given, contents, stamp-place, padded, words, board-of}
+use Rattle.model.specs.Layout.{Part, Operators, Rides, Stamps, Revisions, Index, Parts, Board, pair-places, places, over, onto, exact, sized, board-graph}
+use Rattle.model.specs.Contents.{Slot, Pair, same-slot, Entry, Contents, put, given, contents, pair-place, padded, words, board-of}
 use Rattle.model.proofs.Count.{by-test, test-true, test-false, and-left, and-right, and-both, length-rows, getD-rows, rows-ext}
 use Rattle.model.proofs.Level.{index-same}
 use Rattle.model.proofs.Pairs.{Pairs, pairs-padded, pairs-listed, pairs-in-range, pairs-accepted, table-pairs, length-padded, length-numbers, pair-numbers-same, graph-append}
@@ -58,11 +58,12 @@ length-words h s =
     (length-padded (λ k. k / h .rides) (sized h (given s)))
     (length-padded (λ k. k % h .rides) (sized h (given s)))
     (length-rows (h .rides) (λ u v. s (Pair u v) .stamp) (h .operators))
+    (length-rows (h .rides) (λ u v. s (Pair u v) .revision) (h .operators))
     (length-rows (nodes (sized h (given s))) (λ a x. level (sized h (given s)) (suc a) x) (h .rides))
 
 -- they are the lengths of the board's own head too
 pub places-of : (h : Head) (s : Contents) (p : Part) → places (board-of h s .head) p ≡ places h p
-places-of h s = by-part (λ p. places (board-of h s .head) p ≡ places h p) refl refl refl refl
+places-of h s = by-part (λ p. places (board-of h s .head) p ≡ places h p) refl refl refl refl refl
 
 -- ---- as lent
 
@@ -88,19 +89,27 @@ module _ (h : Head) (s : Contents) (more : Parts) where
   cleared-words : (u v : ℕ) → u < h .operators → v < h .rides → board-graph board .cleared u v ≡ given s u v
   cleared-words = pairs-listed (sized h (given s)) (board .head .pairs) (board .part Operators) (board .part Rides) pairs-of-words
 
-  stamp-words : (u v : ℕ) → u < h .operators → v < h .rides → getD (board .part Stamps) (stamp-place h u v) 0 ≡ s (Pair u v) .stamp
-  unfolding words
-  stamp-words u v a b =
-      let f : ℕ → ℕ → ℕ = λ x y. s (Pair x y) .stamp in
-      List·getD-append (rows (h .operators) (h .rides) f) (more Stamps) 0 (u * h .rides + v) (omega (arith, digits-lt a b, length-rows (h .rides) f (h .operators))) ∙
+  -- a word for each pair stands at the pair's place
+  pair-words : (f : ℕ → ℕ → ℕ) (behind : List ℕ) (u v : ℕ) → u < h .operators → v < h .rides → getD (rows (h .operators) (h .rides) f ++ behind) (pair-place h u v) 0 ≡ f u v
+  pair-words f behind u v a b =
+      List·getD-append (rows (h .operators) (h .rides) f) behind 0 (u * h .rides + v) (omega (arith, digits-lt a b, length-rows (h .rides) f (h .operators))) ∙
       getD-rows (h .rides) f (h .operators) u v 0 a b
+
+  stamp-words : (u v : ℕ) → u < h .operators → v < h .rides → getD (board .part Stamps) (pair-place h u v) 0 ≡ s (Pair u v) .stamp
+  unfolding words
+  stamp-words = pair-words (λ u v. s (Pair u v) .stamp) (more Stamps)
+
+  revision-words : (u v : ℕ) → u < h .operators → v < h .rides → getD (board .part Revisions) (pair-place h u v) 0 ≡ s (Pair u v) .revision
+  unfolding words
+  revision-words = pair-words (λ u v. s (Pair u v) .revision) (more Revisions)
 
   -- the contents are read off again
   pub contents-of : (t : Slot) → Within h t → contents board t ≡ s t
   contents-of (Pair u v) w =
       let stamp = stamp-words u v (w .0) (w .1) in
+      let revision = revision-words u v (w .0) (w .1) in
       let gives = cleared-words u v (w .0) (w .1) in
-      λ j. record { stamp = stamp j; gives = gives j }
+      λ j. record { stamp = stamp j; revision = revision j; gives = gives j }
 
   -- the index is that of the pairs listed
   pub index-words : words h s Index ≡ index-of (board-graph board)
@@ -130,15 +139,15 @@ board-of-same h s s′ same =
     let cleared : (u v : ℕ) → u < h .operators → v < h .rides → given s u v ≡ given s′ u v = λ u v a b. ap (λ (e : Entry). e .gives) (same (Pair u v) (a, b)) in
     let n = sym (pair-numbers-same (sized h (given s)) (given s′) cleared) in
     let x = sym (index-same (sized h (given s)) (given s′) cleared) in
-    let w = rows-ext (h .rides) (λ u v. s (Pair u v) .stamp) (λ u v. s′ (Pair u v) .stamp) (h .operators) (λ u v a b. ap (λ (e : Entry). e .stamp) (same (Pair u v) (a, b))) in
-    let each = by-part (λ p. words h s p ≡ words h s′ p) (ap (λ (l : List ℕ). padded (pair-places h) (map (λ k. k / h .rides) l)) n) (ap (λ (l : List ℕ). padded (pair-places h) (map (λ k. k % h .rides) l)) n) w x in
+    let w : (f : Entry → ℕ) → rows (h .operators) (h .rides) (λ u v. f (s (Pair u v))) ≡ rows (h .operators) (h .rides) (λ u v. f (s′ (Pair u v))) = λ f. rows-ext (h .rides) (λ u v. f (s (Pair u v))) (λ u v. f (s′ (Pair u v))) (h .operators) (λ u v a b. ap f (same (Pair u v) (a, b))) in
+    let each = by-part (λ p. words h s p ≡ words h s′ p) (ap (λ (l : List ℕ). padded (pair-places h) (map (λ k. k / h .rides) l)) n) (ap (λ (l : List ℕ). padded (pair-places h) (map (λ k. k % h .rides) l)) n) (w (λ e. e .stamp)) (w (λ e. e .revision)) x in
     λ j. record { head = record { operators = h .operators; rides = h .rides; pairs = length (n j) }; part = λ p. each p j }
 
 -- of a head the sizes count alone
 pub board-of-sizes : (h : Head) (s s′ : Contents) → board-of (board-of h s .head) s′ ≡ board-of h s′
 unfolding words
 board-of-sizes h s s′ =
-    let each = by-part (λ p. words (board-of h s .head) s′ p ≡ words h s′ p) refl refl refl refl in
+    let each = by-part (λ p. words (board-of h s .head) s′ p ≡ words h s′ p) refl refl refl refl refl in
     λ j. record { head = board-of h s′ .head; part = λ p. each p j }
 
 -- a board laid over one of its sizes that was lent with further words

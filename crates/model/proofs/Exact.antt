@@ -10,15 +10,15 @@ use lib.Arith.{digits-lt}
 use lib.ListN.{length, getD, drop, List·getD-append}
 use Rattle.model.specs.declared.Head.{Head}
 use Rattle.model.specs.declared.Message.{Message}
-use Rattle.model.specs.Layout.{Part, Operators, Rides, Stamps, Index, Parts, Board, pair-places, index-places, places, of-parts, exact, board-graph, differing}
-use Rattle.model.specs.Contents.{Slot, Pair, Entry, later, slot, entry, put, same-slot, contents, stamp-place, words, board-of}
-use Rattle.model.specs.Refusal.{refused-1, refused-2, refused-4, refused-5, refused-6, refused-7, refused-8, refused-9, refused-10, before, out-of-range, misplaced, board-short, message-refusal}
+use Rattle.model.specs.Layout.{Part, Operators, Rides, Stamps, Revisions, Index, Parts, Board, pair-places, index-places, places, of-parts, exact, board-graph, differing}
+use Rattle.model.specs.Contents.{Slot, Pair, Entry, later, slot, entry, put, same-slot, contents, pair-place, words, board-of}
+use Rattle.model.specs.Refusal.{refused-1, refused-2, refused-4, refused-5, refused-6, refused-10, before, out-of-range, misplaced, board-short, valid-cases, message-refusal}
 use Rattle.model.specs.Message.{MessageOutcome, board-after, board-message}
 use Rattle.model.proofs.Count.{count-ext, some-ext}
-use Rattle.model.proofs.Chain.{first-same, enough}
+use Rattle.model.proofs.Chain.{first-same, behind-same, enough}
 use Rattle.model.proofs.Pairs.{graph-same, table-pairs}
 use Rattle.model.proofs.Contents.{Within, length-words, board-of-same, exact-onto}
-use Rattle.model.proofs.Refusal.{tests-valid}
+use Rattle.model.proofs.Refusal.{valid-none}
 use Rattle.model.proofs.Taken.{message-taken, valid-within}
 
 module _ (h : Head) (a a′ : Parts) (same : (p : Part) (i : ℕ) → i < places h p → getD (a p) i 0 ≡ getD (a′ p) i 0) where
@@ -48,8 +48,8 @@ module _ (h : Head) (a a′ : Parts) (same : (p : Part) (i : ℕ) → i < places
     unfolding refused-5
     same-5 = some-ext (misplaced h (a Operators) (a Rides)) (misplaced h (a′ Operators) (a′ Rides)) (h .pairs) same-misplaced
 
-    same-stamp : (u v : ℕ) → u < h .operators → v < h .rides → getD (a Stamps) (stamp-place h u v) 0 ≡ getD (a′ Stamps) (stamp-place h u v) 0
-    same-stamp u v l k = same Stamps (stamp-place h u v) (digits-lt l k)
+    same-stamp : (u v : ℕ) → u < h .operators → v < h .rides → getD (a Stamps) (pair-place h u v) 0 ≡ getD (a′ Stamps) (pair-place h u v) 0
+    same-stamp u v l k = same Stamps (pair-place h u v) (digits-lt l k)
 
     same-6 : (T (refused-5 h (a Operators) (a Rides)) → ⊥) → refused-6 b ≡ refused-6 b′
     unfolding refused-6
@@ -58,12 +58,13 @@ module _ (h : Head) (a a′ : Parts) (same : (p : Part) (i : ℕ) → i < places
         some-ext _ _ (h .pairs)
         (λ i l. ap (λ (x : ℕ). eqb x 0)
         (same-stamp (getD (a Operators) i 0) (getD (a Rides) i 0) (ps .operator i l) (ps .ride i l) ∙
-        ap₂ (λ (u v : ℕ). getD (a′ Stamps) (stamp-place h u v) 0) (same Operators i (omega arith)) (same Rides i (omega arith))))
+        ap₂ (λ (u v : ℕ). getD (a′ Stamps) (pair-place h u v) 0) (same Operators i (omega arith)) (same Rides i (omega arith))))
 
     same-contents : (t : Slot) → Within h t → contents b t ≡ contents b′ t
     same-contents (Pair u v) w =
         let stamp = same-stamp u v (w .0) (w .1) in
-        λ j. record { stamp = stamp j; gives = same-graph j .cleared u v }
+        let revision = same Revisions (pair-place h u v) (digits-lt (w .0) (w .1)) in
+        λ j. record { stamp = stamp j; revision = revision j; gives = same-graph j .cleared u v }
 
     same-10 : (m : Message) → Within h (slot m) → refused-10 b m ≡ refused-10 b′ m
     unfolding refused-10
@@ -106,10 +107,8 @@ module _ (h : Head) (a a′ : Parts) (same : (p : Part) (i : ℕ) → i < places
       let fit = enough (pair-places h) (h .pairs) n4 in
       first-same 5 (refused-5 h (a Operators) (a Rides)) (refused-5 h (a′ Operators) (a′ Rides)) _ _ (same-5 fit) (λ n5.
       first-same 6 (refused-6 b) (refused-6 b′) _ _ (same-6 fit n5) (λ n6.
-      first-same 7 (refused-7 m) (refused-7 m) _ _ refl (λ n7.
-      first-same 8 (refused-8 h m) (refused-8 h m) _ _ refl (λ n8.
-      first-same 9 (refused-9 (m .stamp)) (refused-9 (m .stamp)) _ _ refl (λ n9.
-      first-same 10 (refused-10 b m) (refused-10 b′ m) [] [] (same-10 fit m (valid-within h m (tests-valid h m n7 n8 n9))) (λ n10. refl))))))))))
+      behind-same _ _ (valid-cases h m) (λ none.
+      first-same 10 (refused-10 b m) (refused-10 b′ m) [] [] (same-10 fit m (valid-within h m (valid-none h m none))) (λ n10. refl))))))))
 
   -- a taken message has the same answer, and leaves the same words
   pub same-message : (m : Message) → h .pairs ≤ pair-places h → message-refusal b m ≡ 0 → message-refusal b′ m ≡ 0 → (board-message b m .answer ≡ board-message b′ m .answer) × (exact (board-message b m .board) ≡ exact (board-message b′ m .board))

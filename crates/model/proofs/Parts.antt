@@ -1,21 +1,33 @@
 -- Laws of parts: what holds of each part holds of all, and what is tested of all parts is tested of each. Assumes nothing.
-use mathlib.Core.Path.{_≡_, subst}
+use mathlib.Core.Path.{_≡_, refl, subst}
+use mathlib.Core.Logic.{inl, inr}
 use mathlib.Core.Bool.{Bool, false}
-use mathlib.Core.List.{List, [], _∷_}
+use mathlib.Core.List.{List, [], _∷_, List·Memᴰ, List·Memᴰ·cases-cons, List·Memᴰ·head, List·Memᴰ·tail, List·Memᴰ·not-nil}
 use Prim.Native.Nat.{_≤_, _<_}
 use lib.Dec.{T}
 use lib.ListN.{length}
-use Rattle.model.specs.Layout.{Part, Operators, Rides, Stamps, Index, Board, places, all-parts, some-part}
+use Rattle.model.specs.Layout.{Part, Operators, Rides, Stamps, Revisions, Index, Board, places, all-parts, some-part}
 use Rattle.model.specs.Refusal.{refused-3, board-short}
 use Rattle.model.proofs.Count.{or-left, or-right, or-cases}
 use Rattle.model.proofs.Chain.{enough, not-less, lt-less}
 
 -- one argument for each part
-pub by-part {ℓ} : (P : Part → Type ℓ) → P Operators → P Rides → P Stamps → P Index → (p : Part) → P p
-by-part P o r s i Operators = o
-by-part P o r s i Rides = r
-by-part P o r s i Stamps = s
-by-part P o r s i Index = i
+pub by-part {ℓ} : (P : Part → Type ℓ) → P Operators → P Rides → P Stamps → P Revisions → P Index → (p : Part) → P p
+by-part P o r s v i Operators = o
+by-part P o r s v i Rides = r
+by-part P o r s v i Stamps = s
+by-part P o r s v i Revisions = v
+by-part P o r s v i Index = i
+
+-- each part is one of all
+part-in : (p : Part) → List·Memᴰ p all-parts
+part-in =
+    by-part (λ p. List·Memᴰ p all-parts)
+    (List·Memᴰ·head refl)
+    (List·Memᴰ·tail (List·Memᴰ·head refl))
+    (List·Memᴰ·tail (List·Memᴰ·tail (List·Memᴰ·head refl)))
+    (List·Memᴰ·tail (List·Memᴰ·tail (List·Memᴰ·tail (List·Memᴰ·head refl))))
+    (List·Memᴰ·tail (List·Memᴰ·tail (List·Memᴰ·tail (List·Memᴰ·tail (List·Memᴰ·head refl)))))
 
 module _ (f : Part → Bool) where
   -- no part passes the test where none of the list does
@@ -23,20 +35,17 @@ module _ (f : Part → Bool) where
   no-part n [] t = t
   no-part n (p ∷ ps) t = or-cases (f p) (some-part f ps) t (n p) (no-part n ps)
 
-  -- one that passes is one of all parts
-  pub one-part : (p : Part) → T (f p) → T (some-part f all-parts)
-  one-part =
-      by-part (λ p. T (f p) → T (some-part f all-parts))
-      (first Operators (Rides ∷ Stamps ∷ Index ∷ []))
-      (λ t. next Operators (Rides ∷ Stamps ∷ Index ∷ []) (first Rides (Stamps ∷ Index ∷ []) t))
-      (λ t. next Operators (Rides ∷ Stamps ∷ Index ∷ []) (next Rides (Stamps ∷ Index ∷ []) (first Stamps (Index ∷ []) t)))
-      (λ t. next Operators (Rides ∷ Stamps ∷ Index ∷ []) (next Rides (Stamps ∷ Index ∷ []) (next Stamps (Index ∷ []) (first Index [] t))))
-    where
-      first : (p : Part) (ps : List Part) → T (f p) → T (some-part f (p ∷ ps))
-      first p ps t = or-left (f p) (some-part f ps) t
+  -- one of the list passes where a part of it does
+  some-in : (ps : List Part) (p : Part) → List·Memᴰ p ps → T (f p) → T (some-part f ps)
+  some-in [] p m t = absurd (List·Memᴰ·not-nil m)
+  some-in (q ∷ ps) p m t =
+      elim (List·Memᴰ·cases-cons m) [
+        | inl e ↦ or-left (f q) (some-part f ps) (subst (λ (x : Part). T (f x)) e t)
+        | inr k ↦ or-right (f q) (some-part f ps) (some-in ps p k t)
+      ]
 
-      next : (p : Part) (ps : List Part) → T (some-part f ps) → T (some-part f (p ∷ ps))
-      next p ps t = or-right (f p) (some-part f ps) t
+  pub one-part : (p : Part) → T (f p) → T (some-part f all-parts)
+  one-part p t = some-in all-parts p (part-in p) t
 
 module _ (b : Board) where
   -- 3 by the length of one part

@@ -1,4 +1,4 @@
--- Laws of the numbers 1 to 10: boards to which 1 to 6 do not apply, and valid messages. Assumes nothing.
+-- Laws of the numbers 1 to 10 and 14: boards to which 1 to 6 do not apply, and valid messages. Assumes nothing.
 use mathlib.Core.Path.{_≡_, ap₂, _∙_, subst}
 use mathlib.Core.Bool.{Bool, _||_}
 use mathlib.Core.List.{List, [], _∷_, _++_}
@@ -10,10 +10,10 @@ use lib.ListN.{length, getD}
 use Rattle.model.specs.declared.Head.{Head}
 use Rattle.model.specs.declared.Message.{Message}
 use Rattle.model.specs.Layout.{Part, Operators, Rides, Stamps, Board, pair-places, places, board-graph}
-use Rattle.model.specs.Contents.{stamp-place}
-use Rattle.model.specs.Refusal.{refused-1, refused-2, refused-3, refused-4, refused-5, refused-6, refused-7, refused-8, refused-9, refused-10, first-number, board-short, table-cases, build-refusal, message-refusal, list-refusal}
+use Rattle.model.specs.Contents.{pair-place}
+use Rattle.model.specs.Refusal.{refused-1, refused-2, refused-3, refused-4, refused-5, refused-6, refused-7, refused-8, refused-9, refused-10, refused-14, first-number, board-short, table-cases, valid-cases, message-cases, build-refusal, message-refusal, list-refusal}
 use Rattle.model.proofs.Count.{by-test, or-left, or-right, or-cases, some-holds, some-witness}
-use Rattle.model.proofs.Chain.{first-here, first-skip, first-none, enough, not-less}
+use Rattle.model.proofs.Chain.{Positive, first-nil, first-here, first-skip, first-none, first-behind, first-split, enough, not-less}
 use Rattle.model.proofs.Parts.{board-long, long-board}
 use Rattle.model.proofs.Pairs.{Pairs, listed-place, table-pairs, pairs-fit, pairs-accepted}
 
@@ -29,7 +29,7 @@ pub record AcceptedTable (b : Board) : Type 0 where
 -- a board to which 1 to 6 do not apply
 pub record Accepted (b : Board) : Type 0 where
   pub table : AcceptedTable b
-  pub stamped : (u v : ℕ) → T (board-graph b .cleared u v) → 1 ≤ getD (b .part Stamps) (stamp-place (b .head) u v) 0
+  pub stamped : (u v : ℕ) → T (board-graph b .cleared u v) → 1 ≤ getD (b .part Stamps) (pair-place (b .head) u v) 0
 
 module _ (b : Board) where
   abbrev h : Head
@@ -74,13 +74,13 @@ module _ (b : Board) where
 
   -- the test of 6 at place i
   abbrev unstamped : ℕ → Bool
-  unstamped i = eqb (getD (b .part Stamps) (stamp-place h (getD (b .part Operators) i 0) (getD (b .part Rides) i 0)) 0) 0
+  unstamped i = eqb (getD (b .part Stamps) (pair-place h (getD (b .part Operators) i 0) (getD (b .part Rides) i 0)) 0) 0
 
-  stamped-none : (T (refused-6 b) → ⊥) → (u v : ℕ) → T (board-graph b .cleared u v) → 1 ≤ getD (b .part Stamps) (stamp-place h u v) 0
+  stamped-none : (T (refused-6 b) → ⊥) → (u v : ℕ) → T (board-graph b .cleared u v) → 1 ≤ getD (b .part Stamps) (pair-place h u v) 0
   unfolding refused-6
   stamped-none n u v t =
       let w = listed-place (h .pairs) (b .part Operators) (b .part Rides) u v t in
-      let at : ℕ → ℕ → ℕ = λ x y. getD (b .part Stamps) (stamp-place h x y) 0 in
+      let at : ℕ → ℕ → ℕ = λ x y. getD (b .part Stamps) (pair-place h x y) 0 in
       let here : ℕ = at (getD (b .part Operators) (w .0) 0) (getD (b .part Rides) (w .0) 0) in
       let e : here ≡ at u v = ap₂ at (w .2) (w .3) in
       elim (decLe 1 (at u v)) [
@@ -94,7 +94,7 @@ module _ (b : Board) where
       let w = some-witness unstamped (h .pairs) t in
       let u : ℕ = getD (b .part Operators) (w .0) 0 in
       let v : ℕ = getD (b .part Rides) (w .0) 0 in
-      omega (arith, a .stamped u v (a .table .pairs .holds (w .0) (w .1)), eqb→eq (getD (b .part Stamps) (stamp-place h u v) 0) 0 (w .2))
+      omega (arith, a .stamped u v (a .table .pairs .holds (w .0) (w .1)), eqb→eq (getD (b .part Stamps) (pair-place h u v) 0) 0 (w .2))
 
   pub accepted-none : (short : Bool) (cs : List (ℕ × Bool)) → (T (board-short b) → T short) → first-number (five short ((6, refused-6 b) ∷ cs)) ≡ 0 → Accepted b × (T short → ⊥) × (first-number cs ≡ 0)
   accepted-none short cs s e =
@@ -116,15 +116,16 @@ module _ (b : Board) where
       let t = table-none (board-short b) _ (λ s. s) e in
       (t .0, elim (decLe 1 start) [ yes l ↦ l | no l ↦ absurd (first-none 8 (refused-9 start) [] (t .2) .0 (subst (λ (x : ℕ). T (eqb x 0)) (let z : 0 ≡ start = omega arith in z) (eqb-refl 0))) ])
 
--- ---- 7 to 10
+-- ---- 7 to 10 and 14
 
--- a valid message: 7, 8 and 9 do not apply
+-- a valid message: none of 7, 8, 9 and 14 applies
 pub record Valid (h : Head) (m : Message) : Type 0 where
   pub kind-low : 1 ≤ m .kind
   pub kind-high : m .kind ≤ 2
   pub operator : m .operator < h .operators
   pub ride : m .ride < h .rides
   pub stamp : 1 ≤ m .stamp
+  pub revision : m .revision ≤ 255
 
 module _ (h : Head) (m : Message) where
   pub valid-kind : 1 ≤ m .kind → m .kind ≤ 2 → T (refused-7 m) → ⊥
@@ -144,46 +145,65 @@ module _ (h : Head) (m : Message) where
   pub valid-stamp : 1 ≤ m .stamp → T (refused-9 (m .stamp)) → ⊥
   valid-stamp s t = omega (arith, eqb→eq (m .stamp) 0 t)
 
-  pub tests-valid : (T (refused-7 m) → ⊥) → (T (refused-8 h m) → ⊥) → (T (refused-9 (m .stamp)) → ⊥) → Valid h m
-  tests-valid n7 n8 n9 =
+  pub valid-revision : m .revision ≤ 255 → T (refused-14 m) → ⊥
+  valid-revision = not-less 255 (m .revision)
+
+  pub positive-valid : Positive (valid-cases h m)
+  positive-valid = (omega arith, (omega arith, (omega arith, (omega arith, tt))))
+
+  pub none-valid : Valid h m → first-number (valid-cases h m) ≡ 0
+  none-valid v =
+      first-skip 7 (refused-7 m) _ (valid-kind (v .kind-low) (v .kind-high)) ∙
+      first-skip 8 (refused-8 h m) _ (valid-pair (v .operator) (v .ride)) ∙
+      first-skip 9 (refused-9 (m .stamp)) _ (valid-stamp (v .stamp)) ∙
+      first-skip 14 (refused-14 m) [] (valid-revision (v .revision)) ∙
+      first-nil
+
+  pub valid-none : first-number (valid-cases h m) ≡ 0 → Valid h m
+  valid-none e =
+      let t7 = first-none 6 (refused-7 m) _ e in
+      let t8 = first-none 7 (refused-8 h m) _ (t7 .1) in
+      let t9 = first-none 8 (refused-9 (m .stamp)) _ (t8 .1) in
+      let t14 = first-none 13 (refused-14 m) [] (t9 .1) in
+      let n7 = t7 .0 in
+      let n8 = t8 .0 in
       let kind : (C : Type 0) → (m .kind ≡ 1 → C) → (m .kind ≡ 2 → C) → C = λ C f g. by-test (eqb (m .kind) 1) (λ t. f (eqb→eq (m .kind) 1 t)) (λ o. by-test (eqb (m .kind) 2) (λ t. g (eqb→eq (m .kind) 2 t)) (λ p. absurd (n7 (not-T (eqb (m .kind) 1 || eqb (m .kind) 2) (λ t. or-cases (eqb (m .kind) 1) (eqb (m .kind) 2) t o p))))) in
       record {
         kind-low = kind (1 ≤ m .kind) (λ e. omega arith) (λ e. omega arith);
         kind-high = kind (m .kind ≤ 2) (λ e. omega arith) (λ e. omega arith);
         operator = elim (decLt (m .operator) (h .operators)) [ yes l ↦ l | no l ↦ absurd (n8 (or-left (leb (h .operators) (m .operator)) (leb (h .rides) (m .ride)) (le→leb (h .operators) (m .operator) (omega arith)))) ];
         ride = elim (decLt (m .ride) (h .rides)) [ yes l ↦ l | no l ↦ absurd (n8 (or-right (leb (h .operators) (m .operator)) (leb (h .rides) (m .ride)) (le→leb (h .rides) (m .ride) (omega arith)))) ];
-        stamp = elim (decLe 1 (m .stamp)) [ yes l ↦ l | no l ↦ absurd (n9 (subst (λ (x : ℕ). T (eqb x 0)) (let e : 0 ≡ m .stamp = omega arith in e) (eqb-refl 0))) ];
+        stamp = elim (decLe 1 (m .stamp)) [ yes l ↦ l | no l ↦ absurd (t9 .0 (subst (λ (x : ℕ). T (eqb x 0)) (let e : 0 ≡ m .stamp = omega arith in e) (eqb-refl 0))) ];
+        revision = enough 255 (m .revision) (t14 .0);
       }
 
 -- ---- message and list
 
 module _ (b : Board) (m : Message) where
-  abbrev four : List (ℕ × Bool)
-  four = (7, refused-7 m) ∷ (8, refused-8 (b .head) m) ∷ (9, refused-9 (m .stamp)) ∷ (10, refused-10 b m) ∷ []
+  -- where none of 7 to 10 and 14 applies, the message is valid and later
+  pub cases-none : first-number (message-cases b m) ≡ 0 → Valid (b .head) m × (T (refused-10 b m) → ⊥)
+  cases-none e =
+      let s = first-split ((10, refused-10 b m) ∷ []) (valid-cases (b .head) m) (positive-valid (b .head) m) e in
+      (valid-none (b .head) m (s .0), first-none 9 (refused-10 b m) [] (s .1) .0)
 
   -- a message that is taken: nothing applies
   pub taken-none : message-refusal b m ≡ 0 → Accepted b × Valid (b .head) m × (T (refused-10 b m) → ⊥)
   unfolding message-refusal
   taken-none e =
-      let a = accepted-none b (board-short b) four (λ t. t) e in
-      let n7 = first-none 6 (refused-7 m) _ (a .2) in
-      let n8 = first-none 7 (refused-8 (b .head) m) _ (n7 .1) in
-      let n9 = first-none 8 (refused-9 (m .stamp)) _ (n8 .1) in
-      let n10 = first-none 9 (refused-10 b m) [] (n9 .1) in
-      (a .0, tests-valid (b .head) m (n7 .0) (n8 .0) (n9 .0), n10 .0)
+      let a = accepted-none b (board-short b) (message-cases b m) (λ t. t) e in
+      let v = cases-none (a .2) in
+      (a .0, v .0, v .1)
 
-  -- on an accepted board 7 to 10 decide
-  pub message-accepted : Accepted b → message-refusal b m ≡ first-number four
+  -- on an accepted board the message's own numbers decide
+  pub message-accepted : Accepted b → message-refusal b m ≡ first-number (message-cases b m)
   unfolding message-refusal
-  message-accepted a = accepted-skip b (board-short b) four a (table-long b (a .table))
+  message-accepted a = accepted-skip b (board-short b) (message-cases b m) a (table-long b (a .table))
 
   -- a valid message on an accepted board is refused exactly if 10 applies
   pub message-valid : Accepted b → Valid (b .head) m → message-refusal b m ≡ first-number ((10, refused-10 b m) ∷ [])
   message-valid a v =
       message-accepted a ∙
-      first-skip 7 (refused-7 m) _ (valid-kind (b .head) m (v .kind-low) (v .kind-high)) ∙
-      first-skip 8 (refused-8 (b .head) m) _ (valid-pair (b .head) m (v .operator) (v .ride)) ∙
-      first-skip 9 (refused-9 (m .stamp)) _ (valid-stamp (b .head) m (v .stamp))
+      first-behind ((10, refused-10 b m) ∷ []) (valid-cases (b .head) m) (positive-valid (b .head) m) (none-valid (b .head) m v)
 
 module _ (b : Board) (messages : ℕ) (answers : List ℕ) where
   pub list-none : list-refusal b messages answers ≡ 0 → Accepted b × (messages ≤ length answers)

@@ -18,10 +18,10 @@ pub record BuildOutcome : Type 0 where
   pub code : ℕ
   pub board : Board
 
--- what a board says after a build: each listed pair a grant of the starting stamp, the others nothing
+-- what a board says after a build: each listed pair a grant of the starting stamp and revision 0, the others nothing
 abbrev pub start-contents : Graph → ℕ → Contents
 start-contents g start (Pair u v) =
-    record { stamp = elim (g .cleared u v) [ true ↦ start | false ↦ 0 ]; gives = g .cleared u v }
+    record { stamp = elim (g .cleared u v) [ true ↦ start | false ↦ 0 ]; revision = 0; gives = g .cleared u v }
 
 -- Build, where no number applies
 unfoldable pub built : Board → ℕ → Board

@@ -8,7 +8,7 @@ use Rattle.model.specs.declared.Head.{Head}
 use Rattle.model.specs.Count.{count, some}
 use Rattle.model.specs.Graph.{Graph}
 
--- Pair arrays and Stamps: operators × rides places
+-- Pair arrays, Stamps and Revisions: operators × rides places
 abbrev pub pair-places : Head → ℕ
 pair-places h = h .operators * h .rides
 
@@ -20,22 +20,24 @@ mark-places h = h .operators + h .rides
 abbrev pub index-places : Head → ℕ
 index-places h = h .rides * (h .operators + h .rides)
 
--- the parts of a board, in the order in which they are lent: the two pair arrays, stamps, index
+-- the parts of a board, in the order in which they are lent: the two pair arrays, stamps, revisions, index
 pub data Part : Type 0 where
   Operators : Part
   Rides : Part
   Stamps : Part
+  Revisions : Part
   Index : Part
 
 -- all of them
 abbrev pub all-parts : List Part
-all-parts = Operators ∷ Rides ∷ Stamps ∷ Index ∷ []
+all-parts = Operators ∷ Rides ∷ Stamps ∷ Revisions ∷ Index ∷ []
 
 -- the places that each has
 abbrev pub places : Head → Part → ℕ
 places h Operators = pair-places h
 places h Rides = pair-places h
 places h Stamps = pair-places h
+places h Revisions = pair-places h
 places h Index = index-places h
 
 -- the words of each part
@@ -48,19 +50,20 @@ pub record Board : Type 0 where
   pub part : Parts
 
 -- the parts as a call names them
-abbrev pub parts : List ℕ → List ℕ → List ℕ → List ℕ → Parts
-parts operators rides stamps index Operators = operators
-parts operators rides stamps index Rides = rides
-parts operators rides stamps index Stamps = stamps
-parts operators rides stamps index Index = index
+abbrev pub parts : List ℕ → List ℕ → List ℕ → List ℕ → List ℕ → Parts
+parts operators rides stamps revisions index Operators = operators
+parts operators rides stamps revisions index Rides = rides
+parts operators rides stamps revisions index Stamps = stamps
+parts operators rides stamps revisions index Revisions = revisions
+parts operators rides stamps revisions index Index = index
 
 -- the board of a head and parts
 abbrev pub of-parts : Head → Parts → Board
 of-parts h words = record { head = h; part = words }
 
 -- the board of these lent parts
-abbrev pub lent : Head → List ℕ → List ℕ → List ℕ → List ℕ → Board
-lent h operators rides stamps index = of-parts h (parts operators rides stamps index)
+abbrev pub lent : Head → List ℕ → List ℕ → List ℕ → List ℕ → List ℕ → Board
+lent h operators rides stamps revisions index = of-parts h (parts operators rides stamps revisions index)
 
 -- one of these parts passes the test
 abbrev pub some-part : (Part → Bool) → List Part → Bool

@@ -1,11 +1,10 @@
--- The outcomes of the six calls, put together from what a call answers and the lent parts at exit.
+-- The outcomes of the six calls, put together from what a call answers and what is lent at exit.
 use mathlib.Core.List.{List}
 use Prim.Native.Nat.{ℕ}
-use Rattle.model.specs.declared.Head.{Head}
 use Rattle.model.specs.declared.Counts.{Counts}
 use Rattle.model.specs.declared.Peeled.{Peeled}
 use Rattle.model.specs.declared.Answer.{Answer}
-use Rattle.model.specs.Layout.{Board, lent}
+use Rattle.model.specs.Layout.{Board}
 use Rattle.model.specs.Calls.{BuildOutcome, QueryOutcome, PeelOutcome}
 use Rattle.model.specs.Message.{MessageOutcome, ListOutcome}
 
@@ -21,11 +20,10 @@ queried r marks = record { answer = r; marks = marks }
 abbrev pub peel-left : Peeled → List ℕ → PeelOutcome
 peel-left r marks = record { answer = r; marks = marks }
 
--- Message: its answer, and the lent parts at exit; Preview: its answer, and the spare parts at exit
-abbrev pub answered : Answer → Head → List ℕ → List ℕ → List ℕ → List ℕ → MessageOutcome
-answered r h operators rides stamps index = record { answer = r; board = lent h operators rides stamps index }
+-- Message: its answer and the board at exit; Preview: its answer and the spare board at exit
+abbrev pub answered : Answer → Board → MessageOutcome
+answered r b = record { answer = r; board = b }
 
--- Message list: its number, and the lent parts at exit
-abbrev pub listed-out : ℕ → Head → List ℕ → List ℕ → List ℕ → List ℕ → List ℕ → ListOutcome
-listed-out r h operators rides stamps index answers =
-    record { code = r; board = lent h operators rides stamps index; answers = answers }
+-- Message list: its number, the board and the answer list at exit
+abbrev pub listed-out : ℕ → Board → List ℕ → ListOutcome
+listed-out r b answers = record { code = r; board = b; answers = answers }

@@ -1,5 +1,5 @@
 -- Document 01, What the controller is told: one test for each of the numbers 1 to 10 and 12, and the numbers that each call checks.
--- Document 02, 2.1: 11 is never given.
+-- Document 02, 2.1: 11 is never given; 2.3: 14.
 use mathlib.Core.Bool.{Bool, true, false, _&&_, _||_, not}
 use mathlib.Core.List.{List, [], _∷_, _++_}
 use Prim.Native.Nat.{ℕ, zero, suc, _+_}
@@ -9,7 +9,7 @@ use Rattle.model.specs.declared.Head.{Head}
 use Rattle.model.specs.declared.Message.{Message}
 use Rattle.model.specs.Count.{some}
 use Rattle.model.specs.Layout.{Operators, Rides, Stamps, Parts, Board, pair-places, mark-places, index-places, places, all-parts, some-part, of-parts}
-use Rattle.model.specs.Contents.{later, slot, entry, contents, stamp-place}
+use Rattle.model.specs.Contents.{later, slot, entry, contents, pair-place}
 
 -- 1: operators over 200
 abbrev pub refused-1 : Head → Bool
@@ -53,7 +53,7 @@ refused-5 h operators rides = some (h .pairs) (misplaced h operators rides)
 unfoldable pub refused-6 : Board → Bool
 refused-6 b =
     some (b .head .pairs)
-    (λ i. eqb (getD (b .part Stamps) (stamp-place (b .head) (getD (b .part Operators) i 0) (getD (b .part Rides) i 0)) 0) 0)
+    (λ i. eqb (getD (b .part Stamps) (pair-place (b .head) (getD (b .part Operators) i 0) (getD (b .part Rides) i 0)) 0) 0)
 
 -- 7: message: kind not 1 or 2
 abbrev pub refused-7 : Message → Bool
@@ -74,6 +74,10 @@ refused-10 b m = not (later (entry m) (contents b (slot m)))
 -- 12: peel: a mark in use is not 0 or 1
 unfoldable pub refused-12 : Head → List ℕ → Bool
 refused-12 h marks = some (mark-places h) (λ x. ltb 1 (getD marks x 0))
+
+-- 14: message: revision over 255
+abbrev pub refused-14 : Message → Bool
+refused-14 m = ltb 255 (m .revision)
 
 -- the first number that applies, in the order of the list; 0 if none does
 unfoldable pub first-number : List (ℕ × Bool) → ℕ
@@ -105,16 +109,19 @@ abbrev pub board-cases : Board → Bool → List (ℕ × Bool)
 board-cases b too-short =
     table-cases (b .head) too-short (b .part Operators) (b .part Rides) ++ (6, refused-6 b) ∷ []
 
--- 7 to 10, of a message
-abbrev pub message-cases : Board → Message → List (ℕ × Bool)
-message-cases b m =
-    (7, refused-7 m) ∷ (8, refused-8 (b .head) m) ∷ (9, refused-9 (m .stamp)) ∷ (10, refused-10 b m) ∷ []
+-- 7 to 9 and 14, of a message: it is valid if none of them applies
+abbrev pub valid-cases : Head → Message → List (ℕ × Bool)
+valid-cases h m = (7, refused-7 m) ∷ (8, refused-8 h m) ∷ (9, refused-9 (m .stamp)) ∷ (14, refused-14 m) ∷ []
 
--- message: 1 to 10
+-- these and then 10, of a message on a board
+abbrev pub message-cases : Board → Message → List (ℕ × Bool)
+message-cases b m = valid-cases (b .head) m ++ (10, refused-10 b m) ∷ []
+
+-- message: 1 to 9, 14, 10
 unfoldable pub message-refusal : Board → Message → ℕ
 message-refusal b m = first-number (board-cases b (board-short b) ++ message-cases b m)
 
--- preview: 1 to 10 as a message; a part of the spare memory that is too short for the board is 3
+-- preview: as a message; a part of the spare memory that is too short for the board is 3
 unfoldable pub preview-refusal : Board → Message → Parts → ℕ
 preview-refusal b m spare =
     first-number (board-cases b (board-short b || board-short (of-parts (b .head) spare)) ++ message-cases b m)

@@ -1,21 +1,23 @@
 -- Document 01, Samples on that board: those with a star, one table. Each row has what the definitions give, and what document 01 says.
--- The last row, "Built at stamp 5", has no star. A second table has limits of 0: document 02, 2.1. A third has previews: document 02, 2.2.
+-- The last row, "Built at stamp 5", has no star. Further tables have limits of 0, previews and revisions: document 02, 2.1 to 2.3.
 use mathlib.Core.Path.{_≡_}
 use mathlib.Core.List.{List, [], _∷_, _++_}
 use Prim.Native.Nat.{ℕ, _-_, _*_}
 use lib.ListN.{getD, take, drop, replicate}
+use Rattle.model.specs.declared.Message.{Message}
 use Rattle.model.specs.Graph.{Graph, limits, removals, cover, row}
-use Rattle.model.specs.Layout.{Operators, Rides, Stamps, Index, Board, mark-places, lent, board-graph}
+use Rattle.model.specs.Layout.{Operators, Rides, Stamps, Revisions, Index, Board, mark-places, lent, board-graph}
 use Rattle.model.specs.Calls.{PeelOutcome, board-build, board-query, board-peel}
 use Rattle.model.specs.Message.{MessageOutcome, board-message, board-preview}
 
--- document 01's board as it is lent to a build: words of no meaning stand behind the pairs, in the stamps and in the index
+-- document 01's board as it is lent to a build: words of no meaning stand behind the pairs, in the stamps, the revisions and the index
 abbrev table : Board
 table =
     lent
     (record { operators = 4; rides = 3; pairs = 7 })
     (0 ∷ 0 ∷ 1 ∷ 1 ∷ 2 ∷ 2 ∷ 3 ∷ replicate 5 9)
     (0 ∷ 1 ∷ 0 ∷ 1 ∷ 1 ∷ 2 ∷ 2 ∷ replicate 5 9)
+    (replicate 12 9)
     (replicate 12 9)
     (replicate 21 9)
 
@@ -35,10 +37,10 @@ answer o = o .answer .code ∷ o .answer .settled ∷ o .answer .steps ∷ []
 abbrev built-at : ℕ → Board
 built-at start = board-build table start .board
 
--- what a message gives on a board
+-- what a message of revision 0 gives on a board
 abbrev sent : Board → ℕ → ℕ → ℕ → ℕ → MessageOutcome
 sent b kind operator ride stamp =
-    board-message b (record { kind = kind; operator = operator; ride = ride; stamp = stamp })
+    board-message b (record { kind = kind; operator = operator; ride = ride; revision = 0; stamp = stamp })
 
 -- what the grant (3,1) gives on the board built at stamp 1
 abbrev grant-3-1 : MessageOutcome
@@ -91,10 +93,10 @@ limits-row b α β operators rides marks = (asked b α β ++ left b α β, (0 �
 
 -- boards of two operators and no ride, and of no operator and two rides
 abbrev no-rides : Board
-no-rides = lent (record { operators = 2; rides = 0; pairs = 0 }) [] [] [] []
+no-rides = lent (record { operators = 2; rides = 0; pairs = 0 }) [] [] [] [] []
 
 abbrev no-operators : Board
-no-operators = lent (record { operators = 0; rides = 2; pairs = 0 }) [] [] [] (replicate 4 9)
+no-operators = lent (record { operators = 0; rides = 2; pairs = 0 }) [] [] [] [] (replicate 4 9)
 
 -- limits of 0, by hand from rows 1 and 2 above:
 -- (0,2) all operators, and the rides of level 2 in row 1: all. (2,0) all rides, and the operators of level 1 in row 2: 0, 1, 2. (0,0) everyone.
@@ -117,12 +119,18 @@ zero-samples =
 -- a spare board: words of no meaning in its head and parts, whose last place is past the lengths under Layout; its index has so many places
 abbrev spare : ℕ → Board
 spare places =
-    lent (record { operators = 9; rides = 9; pairs = 9 }) (replicate 13 9) (replicate 13 9) (replicate 13 9) (replicate places 9)
+    lent
+    (record { operators = 9; rides = 9; pairs = 9 })
+    (replicate 13 9)
+    (replicate 13 9)
+    (replicate 13 9)
+    (replicate 13 9)
+    (replicate places 9)
 
--- what the preview of a message for the pair (0,0) gives on the board built at stamp 1
+-- what the preview of a message for the pair (0,0), of revision 3, gives on the board built at stamp 1
 abbrev previewed : ℕ → ℕ → MessageOutcome
 previewed kind places =
-    board-preview (built-at 1) (record { kind = kind; operator = 0; ride = 0; stamp = 2 }) (spare places)
+    board-preview (built-at 1) (record { kind = kind; operator = 0; ride = 0; revision = 3; stamp = 2 }) (spare places)
 
 -- a preview's number, its count, and the spare head
 abbrev numbers : MessageOutcome → List ℕ
@@ -138,6 +146,7 @@ preview-samples =
     (previewed 2 22 .board .part Operators, 0 ∷ 1 ∷ 1 ∷ 2 ∷ 2 ∷ 3 ∷ 0 ∷ 0 ∷ 0 ∷ 0 ∷ 0 ∷ 0 ∷ 9 ∷ []) ∷
     (previewed 2 22 .board .part Rides, 1 ∷ 0 ∷ 1 ∷ 1 ∷ 2 ∷ 2 ∷ 0 ∷ 0 ∷ 0 ∷ 0 ∷ 0 ∷ 0 ∷ 9 ∷ []) ∷
     (previewed 2 22 .board .part Stamps, 2 ∷ 1 ∷ 0 ∷ 1 ∷ 1 ∷ 0 ∷ 0 ∷ 1 ∷ 1 ∷ 0 ∷ 0 ∷ 1 ∷ 9 ∷ []) ∷
+    (previewed 2 22 .board .part Revisions, 3 ∷ 0 ∷ 0 ∷ 0 ∷ 0 ∷ 0 ∷ 0 ∷ 0 ∷ 0 ∷ 0 ∷ 0 ∷ 0 ∷ 9 ∷ []) ∷
     (index-row (previewed 2 22 .board) 1, 3 ∷ 3 ∷ 3 ∷ 2 ∷ 1 ∷ 3 ∷ 2 ∷ []) ∷
     (index-row (previewed 2 22 .board) 2, 0 ∷ 1 ∷ 1 ∷ 0 ∷ 1 ∷ 1 ∷ 1 ∷ []) ∷
     (drop 14 (previewed 2 22 .board .part Index), 0 ∷ 0 ∷ 0 ∷ 0 ∷ 0 ∷ 0 ∷ 0 ∷ 9 ∷ []) ∷
@@ -145,6 +154,51 @@ preview-samples =
     (previewed 3 22 .board .part Stamps, replicate 13 9) ∷
     (numbers (previewed 2 20), 3 ∷ 0 ∷ 9 ∷ 9 ∷ 9 ∷ []) ∷
     (numbers (previewed 3 20), 3 ∷ 0 ∷ 9 ∷ 9 ∷ 9 ∷ []) ∷
+    []
+
+-- a message for the pair (0,0)
+abbrev for-0-0 : ℕ → ℕ → ℕ → Message
+for-0-0 kind revision stamp =
+    record { kind = kind; operator = 0; ride = 0; revision = revision; stamp = stamp }
+
+-- messages sent to a board one after another: their numbers, and then the stamp and the revision of the pair (0,0), and the number of pairs
+abbrev told : Board → List Message → List ℕ
+told b [] = getD (b .part Stamps) 0 0 ∷ getD (b .part Revisions) 0 0 ∷ b .head .pairs ∷ []
+told b (m ∷ ms) = board-message b m .answer .code ∷ told (board-message b m .board) ms
+
+-- the board built at stamp 5, with a revision that no message has at every pair
+abbrev strange : Board
+strange =
+    let b = built-at 5 in
+    lent (b .head) (b .part Operators) (b .part Rides) (b .part Stamps) (replicate 12 300) (b .part Index)
+
+-- revisions, by hand, on the board built at stamp 5, which has 7 pairs and (0,0) among them: a message for it is later than stamp 5,
+-- revision 0, a grant.
+-- A build writes 0. Two corrections of stamp 6, a withdrawal of revision 1 and a grant of revision 2, in both orders: the grant stays.
+-- A grant and a withdrawal of stamp 6 and revision 1: the withdrawal is taken after the grant, and the grant is not taken after it.
+-- Revision 255 is taken, 256 gets 14. At the build's own stamp a grant of revision 0 gets 10, a withdrawal is taken, and so is a grant of
+-- revision 1. The stamp decides first: revision 0 of stamp 6 after revision 255 of stamp 5, and revision 255 of stamp 4 gets 10.
+-- Revision 256 with kind 3 gets 7, with operator 4 gets 8, with stamp 0 gets 9, and with stamp 4, where 10 applies too, 14.
+-- Where 300 is stored, revision 255 of stamp 5 gets 10, and stamp 6 is taken.
+unfoldable pub revision-samples : List (List ℕ × List ℕ)
+revision-samples =
+    (built-at 5 .part Revisions, replicate 12 0) ∷
+    (told (built-at 5) (for-0-0 2 1 6 ∷ for-0-0 1 2 6 ∷ []), 0 ∷ 0 ∷ 6 ∷ 2 ∷ 7 ∷ []) ∷
+    (told (built-at 5) (for-0-0 1 2 6 ∷ for-0-0 2 1 6 ∷ []), 0 ∷ 10 ∷ 6 ∷ 2 ∷ 7 ∷ []) ∷
+    (told (built-at 5) (for-0-0 1 1 6 ∷ for-0-0 2 1 6 ∷ []), 0 ∷ 0 ∷ 6 ∷ 1 ∷ 6 ∷ []) ∷
+    (told (built-at 5) (for-0-0 2 1 6 ∷ for-0-0 1 1 6 ∷ []), 0 ∷ 10 ∷ 6 ∷ 1 ∷ 6 ∷ []) ∷
+    (told (built-at 5) (for-0-0 2 255 6 ∷ for-0-0 1 256 6 ∷ []), 0 ∷ 14 ∷ 6 ∷ 255 ∷ 6 ∷ []) ∷
+    (told (built-at 5) (for-0-0 1 0 5 ∷ for-0-0 2 0 5 ∷ []), 10 ∷ 0 ∷ 5 ∷ 0 ∷ 6 ∷ []) ∷
+    (told (built-at 5) (for-0-0 1 1 5 ∷ []), 0 ∷ 5 ∷ 1 ∷ 7 ∷ []) ∷
+    (told (built-at 5) (for-0-0 1 255 5 ∷ for-0-0 2 0 6 ∷ []), 0 ∷ 0 ∷ 6 ∷ 0 ∷ 6 ∷ []) ∷
+    (told (built-at 5) (for-0-0 1 255 4 ∷ []), 10 ∷ 5 ∷ 0 ∷ 7 ∷ []) ∷
+    (told (built-at 5) (for-0-0 3 256 6 ∷ []), 7 ∷ 5 ∷ 0 ∷ 7 ∷ []) ∷ (
+      told (built-at 5) (record { kind = 1; operator = 4; ride = 0; revision = 256; stamp = 6 } ∷ []),
+      8 ∷ 5 ∷ 0 ∷ 7 ∷ [],
+    ) ∷
+    (told (built-at 5) (for-0-0 1 256 0 ∷ []), 9 ∷ 5 ∷ 0 ∷ 7 ∷ []) ∷
+    (told (built-at 5) (for-0-0 1 256 4 ∷ []), 14 ∷ 5 ∷ 0 ∷ 7 ∷ []) ∷
+    (told strange (for-0-0 2 255 5 ∷ for-0-0 2 0 6 ∷ []), 10 ∷ 0 ∷ 6 ∷ 0 ∷ 6 ∷ []) ∷
     []
 
 -- in each row of a table the two lists are equal

@@ -1,4 +1,4 @@
-// The types of the board's calls, as document 01 lays them out. The definitions in specs/ speak of them.
+// The types of the board's calls, as documents 01 and 02 lay them out. The definitions in specs/ speak of them.
 
 // Head: the sizes, and the number of pairs.
 #[repr(C)]
@@ -8,12 +8,13 @@ pub struct Head {
     pub pairs: u16,
 }
 
-// Message: kind 1 is a grant, 2 a withdrawal.
+// Message: kind 1 is a grant, 2 a withdrawal; a revision from 0 to 255 orders corrections within one stamp.
 #[repr(C)]
 pub struct Message {
     pub kind: u16,
     pub operator: u16,
     pub ride: u16,
+    pub revision: u16,
     pub stamp: u32,
 }
 

@@ -21,16 +21,21 @@ pub fn preview(
     operators: &[u16],
     rides: &[u16],
     stamps: &[u32],
+    revisions: &[u16],
     index: &[u16],
     spare_operators: &mut [u16],
     spare_rides: &mut [u16],
     spare_stamps: &mut [u32],
+    spare_revisions: &mut [u16],
     spare_index: &mut [u16],
 ) -> Previewed
     ensures { λ r. ⌜
-        answered (r .answer) (r .head) (now («spare_operators» .exit)) (now («spare_rides» .exit)) (now («spare_stamps» .exit)) (now («spare_index» .exit))
-        ≡ board-preview (lent head (now (operators .entry)) (now (rides .entry)) (now (stamps .entry)) (now (index .entry))) message
-        (lent «spare_head» (now («spare_operators» .entry)) (now («spare_rides» .entry)) (now («spare_stamps» .entry)) (now («spare_index» .entry)))
+        answered (r .answer)
+        (lent (r .head) (now («spare_operators» .exit)) (now («spare_rides» .exit)) (now («spare_stamps» .exit)) (now («spare_revisions» .exit))
+        (now («spare_index» .exit)))
+        ≡ board-preview (lent head (now (operators .entry)) (now (rides .entry)) (now (stamps .entry)) (now (revisions .entry)) (now (index .entry))) message
+        (lent «spare_head» (now («spare_operators» .entry)) (now («spare_rides» .entry)) (now («spare_stamps» .entry)) (now («spare_revisions» .entry))
+        (now («spare_index» .entry)))
         ⌝ }
 {
     let number = message_refusals::preview_number(
@@ -39,10 +44,12 @@ pub fn preview(
         operators,
         rides,
         stamps,
+        revisions,
         index,
         spare_operators,
         spare_rides,
         spare_stamps,
+        spare_revisions,
         spare_index,
     );
     if number != 0 {
@@ -59,10 +66,12 @@ pub fn preview(
         operators,
         rides,
         stamps,
+        revisions,
         index,
         spare_operators,
         spare_rides,
         spare_stamps,
+        spare_revisions,
         spare_index,
     );
     let d = taking::take(
@@ -71,6 +80,7 @@ pub fn preview(
         spare_operators,
         spare_rides,
         spare_stamps,
+        spare_revisions,
         spare_index,
     );
     Previewed {

@@ -8,15 +8,19 @@ ghost use Rattle.model.specs.Layout.{lent, pair-places};
 ghost use Rattle.model.specs.Refusal.{board-short, first-number, table-cases, build-refusal, query-refusal};
 use model::Head;
 
-// Whether a pair array or the stamps are shorter than operators × rides, or the index than its rows.
+// Whether a pair array, the stamps or the revisions are shorter than operators × rides, or the index than its rows.
 pub fn short_board(
     head: Head,
     operators: &[u16],
     rides: &[u16],
     stamps: &[u32],
+    revisions: &[u16],
     index: &[u16],
 ) -> bool
-    ensures { λ r. ⌜ r ≡ board-short (lent head (now (operators .entry)) (now (rides .entry)) (now (stamps .entry)) (now (index .entry))) ⌝ }
+    ensures { λ r. ⌜
+        r
+        ≡ board-short (lent head (now (operators .entry)) (now (rides .entry)) (now (stamps .entry)) (now (revisions .entry)) (now (index .entry)))
+        ⌝ }
 {
     let n = head.operators as usize;
     let m = head.rides as usize;
@@ -28,6 +32,9 @@ pub fn short_board(
         return true;
     }
     if stamps.len() < places {
+        return true;
+    }
+    if revisions.len() < places {
         return true;
     }
     if index.len() < m * (n + m) {
@@ -66,11 +73,15 @@ pub fn build_number(
     rides: &[u16],
     start: u32,
     stamps: &[u32],
+    revisions: &[u16],
     index: &[u16],
 ) -> u16
-    ensures { λ r. ⌜ r ≡ build-refusal (lent head (now (operators .entry)) (now (rides .entry)) (now (stamps .entry)) (now (index .entry))) start ⌝ }
+    ensures { λ r. ⌜
+        r
+        ≡ build-refusal (lent head (now (operators .entry)) (now (rides .entry)) (now (stamps .entry)) (now (revisions .entry)) (now (index .entry))) start
+        ⌝ }
 {
-    let short = short_board(head, operators, rides, stamps, index);
+    let short = short_board(head, operators, rides, stamps, revisions, index);
     let number = table_number(head, short, operators, rides);
     if number != 0 {
         return number;

@@ -8,15 +8,34 @@ fn call(
     operators: &mut [u16; 12300],
     rides: &mut [u16; 12300],
     stamps: &mut [u32; 12300],
+    revisions: &mut [u16; 12300],
     index: &mut [u16; 16000],
     marks: &mut [u16; 270],
     answers: &mut [u16; 70],
 ) -> u64 {
     if frames::word(frame, 0) < 4 {
-        replay_tables::call(frame, lent, operators, rides, stamps, index, marks);
+        replay_tables::call(
+            frame,
+            lent,
+            operators,
+            rides,
+            stamps,
+            revisions,
+            index,
+            marks,
+        );
         0
     } else {
-        replay_messages::call(frame, lent, operators, rides, stamps, index, answers)
+        replay_messages::call(
+            frame,
+            lent,
+            operators,
+            rides,
+            stamps,
+            revisions,
+            index,
+            answers,
+        )
     }
 }
 
@@ -26,18 +45,39 @@ fn step(
     operators: &mut [u16; 12300],
     rides: &mut [u16; 12300],
     stamps: &mut [u32; 12300],
+    revisions: &mut [u16; 12300],
     index: &mut [u16; 16000],
     marks: &mut [u16; 270],
     answers: &mut [u16; 70],
 ) {
-    let lent = replay_memory::load(frame, operators, rides, stamps, index, marks, answers);
-    let head = call(frame, lent, operators, rides, stamps, index, marks, answers);
+    let lent = replay_memory::load(
+        frame,
+        operators,
+        rides,
+        stamps,
+        revisions,
+        index,
+        marks,
+        answers,
+    );
+    let head = call(
+        frame,
+        lent,
+        operators,
+        rides,
+        stamps,
+        revisions,
+        index,
+        marks,
+        answers,
+    );
     frames::print_checksum(replay_memory::checksum(
         head,
         lent,
         operators,
         rides,
         stamps,
+        revisions,
         index,
         marks,
         answers,
@@ -50,6 +90,7 @@ pub fn run() {
     let mut operators = [0u16; 12300];
     let mut rides = [0u16; 12300];
     let mut stamps = [0u32; 12300];
+    let mut revisions = [0u16; 12300];
     let mut index = [0u16; 16000];
     let mut marks = [0u16; 270];
     let mut answers = [0u16; 70];
@@ -63,6 +104,7 @@ pub fn run() {
             &mut operators,
             &mut rides,
             &mut stamps,
+            &mut revisions,
             &mut index,
             &mut marks,
             &mut answers,

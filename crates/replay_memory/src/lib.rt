@@ -10,6 +10,7 @@ pub struct Lent {
     pub operators: usize,
     pub rides: usize,
     pub stamps: usize,
+    pub revisions: usize,
     pub index: usize,
     pub marks: usize,
     pub answers: usize,
@@ -22,6 +23,7 @@ pub fn checksum(
     operators: &[u16; 12300],
     rides: &[u16; 12300],
     stamps: &[u32; 12300],
+    revisions: &[u16; 12300],
     index: &[u16; 16000],
     marks: &[u16; 270],
     answers: &[u16; 70],
@@ -29,7 +31,8 @@ pub fn checksum(
     let o = lent_parts::checksum(head, lent.operators, operators);
     let r = lent_parts::checksum(o, lent.rides, rides);
     let s = lent_parts::checksum_longs(r, lent.stamps, stamps);
-    let i = lent_parts::checksum(s, lent.index, index);
+    let v = lent_parts::checksum(s, lent.revisions, revisions);
+    let i = lent_parts::checksum(v, lent.index, index);
     let m = lent_parts::checksum(i, lent.marks, marks);
     lent_parts::checksum(m, lent.answers, answers)
 }
@@ -40,17 +43,18 @@ fn parts_at(frame: &[u8]) -> usize {
         1 => 6,
         2 => 6,
         3 => 7,
-        4 => 9,
-        _ => frames::past(5, 5 * (frames::word(frame, 4) as usize)),
+        4 => 10,
+        _ => frames::past(5, 6 * (frames::word(frame, 4) as usize)),
     }
 }
 
-// Sets the memory as the parts of a frame say. A query has no pairs, a peel no index, and neither has stamps; they alone have marks.
+// Sets the memory as the parts of a frame say. A query has no pairs, a peel no index, and neither has stamps or revisions; they alone have marks.
 pub fn load(
     frame: &[u8],
     operators: &mut [u16; 12300],
     rides: &mut [u16; 12300],
     stamps: &mut [u32; 12300],
+    revisions: &mut [u16; 12300],
     index: &mut [u16; 16000],
     marks: &mut [u16; 270],
     answers: &mut [u16; 70],
@@ -60,13 +64,15 @@ pub fn load(
     let o = lent_parts::load(frame, parts_at(frame), kind != 2, operators);
     let r = lent_parts::load(frame, o.next, kind != 2, rides);
     let s = lent_parts::load_longs(frame, r.next, !marked, stamps);
-    let i = lent_parts::load(frame, s.next, kind != 3, index);
+    let v = lent_parts::load(frame, s.next, !marked, revisions);
+    let i = lent_parts::load(frame, v.next, kind != 3, index);
     let m = lent_parts::load(frame, i.next, marked, marks);
     let a = lent_parts::load(frame, m.next, kind == 5, answers);
     Lent {
         operators: o.places,
         rides: r.places,
         stamps: s.places,
+        revisions: v.places,
         index: i.places,
         marks: m.places,
         answers: a.places,

@@ -10,6 +10,7 @@ fn deliver_at(
     operators: &mut [u16],
     rides: &mut [u16],
     stamps: &mut [u32],
+    revisions: &mut [u16],
     index: &mut [u16],
 ) -> Delivered {
     let now = frames::head_now(frame, pairs);
@@ -19,6 +20,7 @@ fn deliver_at(
         operators,
         rides,
         stamps,
+        revisions,
         index,
     )
 }
@@ -29,6 +31,7 @@ fn message(
     operators: &mut [u16],
     rides: &mut [u16],
     stamps: &mut [u32],
+    revisions: &mut [u16],
     index: &mut [u16],
 ) -> u64 {
     let delivered = deliver_at(
@@ -38,6 +41,7 @@ fn message(
         lent_parts::first(operators, lent.operators),
         lent_parts::first(rides, lent.rides),
         lent_parts::first_longs(stamps, lent.stamps),
+        lent_parts::first(revisions, lent.revisions),
         lent_parts::first(index, lent.index),
     );
     frames::print(delivered.code);
@@ -52,16 +56,17 @@ fn deliver_all(
     operators: &mut [u16],
     rides: &mut [u16],
     stamps: &mut [u32],
+    revisions: &mut [u16],
     index: &mut [u16],
     answers: &mut [u16],
 ) -> u16 {
     let mut pairs = frames::word(frame, 3);
     let mut at = 5;
     for i in 0..count {
-        let delivered = deliver_at(frame, at, pairs, operators, rides, stamps, index);
+        let delivered = deliver_at(frame, at, pairs, operators, rides, stamps, revisions, index);
         lent_parts::store(answers, i, delivered.code);
         pairs = delivered.pairs;
-        at = frames::past(at, 5);
+        at = frames::past(at, 6);
     }
     pairs
 }
@@ -72,6 +77,7 @@ fn deliver_list(
     operators: &mut [u16],
     rides: &mut [u16],
     stamps: &mut [u32],
+    revisions: &mut [u16],
     index: &mut [u16],
     answers: &mut [u16],
 ) -> u16 {
@@ -82,6 +88,7 @@ fn deliver_list(
         operators,
         rides,
         stamps,
+        revisions,
         index,
         answers,
     );
@@ -92,6 +99,7 @@ fn deliver_list(
         operators,
         rides,
         stamps,
+        revisions,
         index,
         answers,
     )
@@ -103,6 +111,7 @@ fn list(
     operators: &mut [u16],
     rides: &mut [u16],
     stamps: &mut [u32],
+    revisions: &mut [u16],
     index: &mut [u16],
     answers: &mut [u16],
 ) -> u64 {
@@ -111,6 +120,7 @@ fn list(
         lent_parts::first(operators, lent.operators),
         lent_parts::first(rides, lent.rides),
         lent_parts::first_longs(stamps, lent.stamps),
+        lent_parts::first(revisions, lent.revisions),
         lent_parts::first(index, lent.index),
         lent_parts::first(answers, lent.answers),
     );
@@ -124,12 +134,22 @@ pub fn call(
     operators: &mut [u16; 12300],
     rides: &mut [u16; 12300],
     stamps: &mut [u32; 12300],
+    revisions: &mut [u16; 12300],
     index: &mut [u16; 16000],
     answers: &mut [u16; 70],
 ) -> u64 {
     if frames::word(frame, 0) == 4 {
-        message(frame, lent, operators, rides, stamps, index)
+        message(frame, lent, operators, rides, stamps, revisions, index)
     } else {
-        list(frame, lent, operators, rides, stamps, index, answers)
+        list(
+            frame,
+            lent,
+            operators,
+            rides,
+            stamps,
+            revisions,
+            index,
+            answers,
+        )
     }
 }

@@ -8,6 +8,7 @@ fn build(
     operators: &mut [u16],
     rides: &mut [u16],
     stamps: &mut [u32],
+    revisions: &mut [u16],
     index: &mut [u16],
 ) {
     let start = frames::long(frame, 4);
@@ -17,6 +18,7 @@ fn build(
         lent_parts::first(rides, lent.rides),
         start,
         lent_parts::first_longs(stamps, lent.stamps),
+        lent_parts::first(revisions, lent.revisions),
         lent_parts::first(index, lent.index),
     );
     frames::print(code);
@@ -61,11 +63,12 @@ pub fn call(
     operators: &mut [u16; 12300],
     rides: &mut [u16; 12300],
     stamps: &mut [u32; 12300],
+    revisions: &mut [u16; 12300],
     index: &mut [u16; 16000],
     marks: &mut [u16; 270],
 ) {
     match frames::word(frame, 0) {
-        1 => build(frame, lent, operators, rides, stamps, index),
+        1 => build(frame, lent, operators, rides, stamps, revisions, index),
         2 => query(frame, lent, index, marks),
         _ => peel(frame, lent, operators, rides, marks),
     }

@@ -1,20 +1,20 @@
-// The stamps: the place of a pair's stamp, the stamps of a build, whether a listed pair has none, whether a message is later than its pair's last, and
-// the store of a taken message.
+// The stamps and revisions: a pair's place among them, the stamps of a build, whether a listed pair has none, whether a message is later than its
+// pair's last, and the store of a taken message.
 ghost use mathlib.Core.Path.{_≡_};
 ghost use mathlib.Core.List.{List};
-ghost use Prim.Native.Nat.{ℕ, _*_, _<_, _≤_};
+ghost use Prim.Native.Nat.{ℕ, _+_, _*_, _<_, _≤_};
 ghost use lib.ListN.{length, getD, set};
 ghost use Rattle.model.specs.Layout.{lent, pair-places, over, listed, graph};
-ghost use Rattle.model.specs.Contents.{stamp-place};
+ghost use Rattle.model.specs.Contents.{pair-place};
 ghost use Rattle.model.specs.Refusal.{refused-6, refused-10};
 ghost use Rattle.pairs.specs.Accepted.{AcceptedPairs};
 ghost use Rattle.stamps.specs.Stamps.{Stamped, start-stamps};
 use model::Head;
 use model::Message;
 
-// The place of a pair's stamp.
+// The place of a pair's stamp, and of its revision.
 fn place(head: Head, operator: u16, ride: u16) -> usize
-    ensures { λ r. ⌜ r ≡ stamp-place head operator ride ⌝ }
+    ensures { λ r. ⌜ r ≡ pair-place head operator ride ⌝ }
 {
     operator as usize * head.rides as usize + ride as usize
 }
@@ -50,7 +50,9 @@ pub fn fill(head: Head, operators: &[u16], rides: &[u16], start: u32, stamps: &m
 // Whether a listed pair has stamp 0.
 pub fn missing(head: Head, operators: &[u16], rides: &[u16], stamps: &[u32]) -> bool
     requires { ⌜ AcceptedPairs head (now operators) (now rides) × (pair-places head ≤ length (now stamps)) ⌝ }
-    ensures { λ r. ⌜ ((index : List ℕ) → r ≡ refused-6 (lent head (now (operators .entry)) (now (rides .entry)) (now (stamps .entry)) index)) ⌝ }
+    ensures { λ r. ⌜
+        ((revisions index : List ℕ) → r ≡ refused-6 (lent head (now (operators .entry)) (now (rides .entry)) (now (stamps .entry)) revisions index))
+        ⌝ }
 {
     let pairs = head.pairs as usize;
     let mut i = 0;
@@ -64,26 +66,38 @@ pub fn missing(head: Head, operators: &[u16], rides: &[u16], stamps: &[u32]) -> 
     false
 }
 
-// Whether a message in range is not later than its pair's last: at equal stamps only a withdrawal of a listed pair is.
+// The rank of a stamp and a revision: the larger the later, by the stamp first.
+fn rank(stamp: u32, revision: u16) -> u64
+    ensures { λ r. ⌜ r ≡ stamp * 65536 + revision ⌝ }
+{
+    stamp as u64 * 65536 + revision as u64
+}
+
+// Whether a message in range is not later than its pair's last: at equal stamps and revisions only a withdrawal of a listed pair is.
 pub fn not_later(
     head: Head,
     message: Message,
     operators: &[u16],
     rides: &[u16],
     stamps: &[u32],
+    revisions: &[u16],
 ) -> bool
     requires { ⌜
-        AcceptedPairs head (now operators) (now rides) × (pair-places head ≤ length (now stamps)) × (message .operator < head .operators)
-        × (message .ride < head .rides)
+        AcceptedPairs head (now operators) (now rides) × (pair-places head ≤ length (now stamps)) × (pair-places head ≤ length (now revisions)) ×
+        (message .operator < head .operators) × (message .ride < head .rides)
         ⌝ }
-    ensures { λ r. ⌜ ((index : List ℕ) → r ≡ refused-10 (lent head (now (operators .entry)) (now (rides .entry)) (now (stamps .entry)) index) message) ⌝ }
+    ensures { λ r. ⌜
+        ((index : List ℕ) → r ≡ refused-10
+        (lent head (now (operators .entry)) (now (rides .entry)) (now (stamps .entry)) (now (revisions .entry)) index) message)
+        ⌝ }
 {
     let at = place(head, message.operator, message.ride);
-    let last = stamps[at];
-    if last < message.stamp {
+    let last = rank(stamps[at], revisions[at]);
+    let this = rank(message.stamp, message.revision);
+    if last < this {
         return false;
     }
-    if message.stamp < last {
+    if this < last {
         return true;
     }
     if message.kind == 1 {
@@ -92,11 +106,18 @@ pub fn not_later(
     !pairs::is_listed(head, message.operator, message.ride, operators, rides)
 }
 
-// Stores the stamp of a taken message.
-pub fn store(head: Head, message: Message, stamps: &mut [u32])
-    requires { ⌜ stamp-place head (message .operator) (message .ride) < length (now stamps) ⌝ }
-    ensures { λ _. ⌜ now (stamps .exit) ≡ set (now (stamps .entry)) (stamp-place head (message .operator) (message .ride)) (message .stamp) ⌝ }
+// Stores the stamp and the revision of a taken message.
+pub fn store(head: Head, message: Message, stamps: &mut [u32], revisions: &mut [u16])
+    requires { ⌜
+        (pair-place head (message .operator) (message .ride) < length (now stamps)) ×
+        (pair-place head (message .operator) (message .ride) < length (now revisions))
+        ⌝ }
+    ensures { λ _. ⌜
+        (now (stamps .exit) ≡ set (now (stamps .entry)) (pair-place head (message .operator) (message .ride)) (message .stamp)) ×
+        (now (revisions .exit) ≡ set (now (revisions .entry)) (pair-place head (message .operator) (message .ride)) (message .revision))
+        ⌝ }
 {
     let at = place(head, message.operator, message.ride);
     stamps[at] = message.stamp;
+    revisions[at] = message.revision;
 }

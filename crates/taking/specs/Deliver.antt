@@ -1,16 +1,13 @@
 -- Inner contracts: what `deliver` returns and leaves, as the model's outcome.
-use mathlib.Core.List.{List}
-use Prim.Native.Nat.{ℕ}
-use Rattle.model.specs.declared.Head.{Head}
-use Rattle.model.specs.Layout.{lent}
+use Rattle.model.specs.Layout.{Board, of-parts}
 use Rattle.model.specs.Message.{MessageOutcome}
 use Rattle.entries.specs.Enter.{with-pairs}
 use Rattle.taking.specs.declared.Delivered.{Delivered}
 
--- the answer, and the lent parts at exit
-abbrev pub outcome-of : Head → Delivered → List ℕ → List ℕ → List ℕ → List ℕ → MessageOutcome
-outcome-of h d operators rides stamps index =
+-- the answer, and the board at exit: its parts, and the number of pairs after the message
+abbrev pub outcome-of : Delivered → Board → MessageOutcome
+outcome-of d b =
     record {
       answer = record { code = d .code; differ = d .differ };
-      board = lent (with-pairs h (d .pairs)) operators rides stamps index;
+      board = of-parts (with-pairs (b .head) (d .pairs)) (b .part);
     }

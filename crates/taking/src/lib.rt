@@ -21,15 +21,16 @@ pub fn take(
     operators: &mut [u16],
     rides: &mut [u16],
     stamps: &mut [u32],
+    revisions: &mut [u16],
     index: &mut [u16],
 ) -> Delivered
-    requires { ⌜ message-refusal (lent head (now operators) (now rides) (now stamps) (now index)) message ≡ 0 ⌝ }
+    requires { ⌜ message-refusal (lent head (now operators) (now rides) (now stamps) (now revisions) (now index)) message ≡ 0 ⌝ }
     ensures { λ r. ⌜
-        outcome-of head r (now (operators .exit)) (now (rides .exit)) (now (stamps .exit)) (now (index .exit))
-        ≡ board-message (lent head (now (operators .entry)) (now (rides .entry)) (now (stamps .entry)) (now (index .entry))) message
+        outcome-of r (lent head (now (operators .exit)) (now (rides .exit)) (now (stamps .exit)) (now (revisions .exit)) (now (index .exit)))
+        ≡ board-message (lent head (now (operators .entry)) (now (rides .entry)) (now (stamps .entry)) (now (revisions .entry)) (now (index .entry))) message
         ⌝ }
 {
-    let pairs = entries::enter(head, message, operators, rides, stamps);
+    let pairs = entries::enter(head, message, operators, rides, stamps, revisions);
     let next = Head {
         operators: head.operators,
         rides: head.rides,
