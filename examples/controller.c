@@ -8,9 +8,9 @@
  *
  * ALPHA may be 0, no limit. BETA is from 1: under no limit each ride would get a permit, also one without operators.
  *
- * A line of the trace is `KIND OPERATOR RIDE STAMP`, all numbers, kind 1 a grant and 2 a withdrawal; what follows a #
- * is a comment. At the end the same messages are given to a second board in the order of their stamps, as one message
- * list. Exit status 0 says that the two boards are the same, word for word.
+ * A line of the trace is `KIND OPERATOR RIDE REVISION STAMP`, all numbers, kind 1 a grant and 2 a withdrawal; what
+ * follows a # is a comment. At the end the same messages are given to a second board in the order of their stamps and
+ * revisions, as one message list. Exit status 0 says that the two boards are the same, word for word.
  */
 #include <stdio.h>
 #include <stdlib.h>
@@ -25,7 +25,7 @@
 
 /* Document 01's board, twice, and spare memory for previews. */
 #define PAIRS 7
-#define SAMPLE {{0, 0, 1, 1, 2, 2, 3}, {0, 1, 0, 1, 1, 2, 2}, {0}, {0}}
+#define SAMPLE {{0, 0, 1, 1, 2, 2, 3}, {0, 1, 0, 1, 1, 2, 2}, {0}, {0}, {0}}
 
 BOARD_STORAGE(arriving_memory, OPERATORS, RIDES) = SAMPLE;
 BOARD_STORAGE(in_order_memory, OPERATORS, RIDES) = SAMPLE;
@@ -66,8 +66,8 @@ static void print_permits(const char *when, const Board *board, uint16_t alpha, 
 
 static void print_message(size_t number, BoardMessage m) {
     const char *kind = m.kind == BOARD_GRANT ? "grant" : m.kind == BOARD_WITHDRAWAL ? "withdrawal" : "unknown kind";
-    printf("message %zu: %s, operator %u, ride %u, stamp %lu\n", number, kind, m.operator_number, m.ride,
-           (unsigned long)m.stamp);
+    printf("message %zu: %s, operator %u, ride %u, stamp %lu, revision %u\n", number, kind, m.operator_number, m.ride,
+           (unsigned long)m.stamp, m.revision);
 }
 
 static void print_answer(const char *what, BoardAnswer answer) {
@@ -85,26 +85,34 @@ static size_t read_trace(const char *name) {
     if (file == NULL)
         stop("the trace cannot be opened");
     while (fgets(line, sizeof line, file) != NULL) {
-        unsigned kind, operator_number, ride;
+        unsigned kind, operator_number, ride, revision;
         unsigned long stamp;
         line[strcspn(line, "#")] = '\0';
         if (line[strspn(line, " \t\r\n")] == '\0')
             continue;
         if (count == MESSAGES_MOST)
             stop("the trace has too many messages");
-        if (sscanf(line, "%u %u %u %lu", &kind, &operator_number, &ride, &stamp) != 4 || kind > UINT16_MAX ||
-            operator_number > UINT16_MAX || ride > UINT16_MAX || stamp > UINT32_MAX)
-            stop("a line of the trace is not KIND OPERATOR RIDE STAMP");
-        trace[count++] = (BoardMessage){(uint16_t)kind, (uint16_t)operator_number, (uint16_t)ride, (uint32_t)stamp};
+        if (sscanf(line, "%u %u %u %u %lu", &kind, &operator_number, &ride, &revision, &stamp) != 5 ||
+            kind > UINT16_MAX || operator_number > UINT16_MAX || ride > UINT16_MAX || revision > UINT16_MAX ||
+            stamp > UINT32_MAX)
+            stop("a line of the trace is not KIND OPERATOR RIDE REVISION STAMP");
+        trace[count++] = (BoardMessage){.kind = (uint16_t)kind,
+                                        .operator_number = (uint16_t)operator_number,
+                                        .ride = (uint16_t)ride,
+                                        .revision = (uint16_t)revision,
+                                        .stamp = (uint32_t)stamp};
     }
     fclose(file);
     return count;
 }
 
+/* The order of two messages: by stamp, then revision, then kind. Of one pair the later comes behind. */
 static int by_stamp(const void *left, const void *right) {
     const BoardMessage *a = left, *b = right;
     if (a->stamp != b->stamp)
         return a->stamp < b->stamp ? -1 : 1;
+    if (a->revision != b->revision)
+        return a->revision < b->revision ? -1 : 1;
     return (int)a->kind - (int)b->kind;
 }
 
@@ -114,6 +122,7 @@ static int same(const Board *a, const Board *b) {
            memcmp(a->operators, b->operators, a->operators_length * sizeof a->operators[0]) == 0 &&
            memcmp(a->rides, b->rides, a->rides_length * sizeof a->rides[0]) == 0 &&
            memcmp(a->stamps, b->stamps, a->stamps_length * sizeof a->stamps[0]) == 0 &&
+           memcmp(a->revisions, b->revisions, a->revisions_length * sizeof a->revisions[0]) == 0 &&
            memcmp(a->index, b->index, a->index_length * sizeof a->index[0]) == 0;
 }
 
@@ -176,7 +185,7 @@ int main(int count, char **words) {
     qsort(trace, messages, sizeof trace[0], by_stamp);
     check(board_messages_on(&in_order, trace, messages, answers, BOARD_LENGTH(answers)));
     int equal = same(&arriving, &in_order);
-    printf("the same messages in the order of their stamps: %s\n",
+    printf("the same messages in the order of their stamps and revisions: %s\n",
            equal ? "the same board, word for word" : "ANOTHER BOARD");
     return equal ? 0 : 1;
 }

@@ -3,7 +3,7 @@
 
 #include "board.h"
 
-BOARD_STORAGE(memory, 200, 60) = {{0, 3, 17}, {5, 5, 4}, {0}, {0}}; /* the pairs (0, 5), (3, 5) and (17, 4) */
+BOARD_STORAGE(memory, 200, 60) = {{0, 3, 17}, {5, 5, 4}, {0}, {0}, {0}}; /* the pairs (0, 5), (3, 5) and (17, 4) */
 static Board board = BOARD_OVER(memory, 200, 60, 3);
 static uint16_t marks[BOARD_MARK_PLACES(200, 60)];
 
@@ -11,7 +11,7 @@ int main(void) {
     uint16_t code = board_build_on(&board, 1);
     printf("build: %s\n", board_text(code));
 
-    BoardMessage grant = {BOARD_GRANT, 17, 5, 1700000000};
+    BoardMessage grant = {BOARD_GRANT, 17, 5, 0, 1700000000}; /* kind, operator, ride, revision, stamp */
     BoardAnswer answer = board_message_on(&board, grant);
     printf("grant: %s\n", board_text(answer.code));
 

@@ -61,6 +61,7 @@ impl Framed {
             operators: Part::kept(lengths.operators),
             rides: Part::kept(lengths.rides),
             stamps: Part::kept(lengths.stamps),
+            revisions: Part::kept(lengths.revisions),
             index: Part::kept(lengths.index),
         }
     }
@@ -120,7 +121,7 @@ fn put_head(frame: &mut Vec<u16>, head: Head) {
 }
 
 fn put_message(frame: &mut Vec<u16>, message: Message) {
-    frame.extend([message.kind, message.operator, message.ride]);
+    frame.extend([message.kind, message.operator, message.ride, message.revision]);
     message.stamp.put(frame);
 }
 
@@ -139,10 +140,11 @@ fn put_part<T: Word>(frame: &mut Vec<u16>, part: &Part<T>) {
 }
 
 fn put_parts(frame: &mut Vec<u16>, parts: &Framed) {
-    let Parts { operators, rides, stamps, index } = parts;
+    let Parts { operators, rides, stamps, revisions, index } = parts;
     put_part(frame, operators);
     put_part(frame, rides);
     put_part(frame, stamps);
+    put_part(frame, revisions);
     put_part(frame, index);
 }
 
@@ -275,6 +277,7 @@ impl Default for Memory {
             operators: vec![0; PAIR_PLACES],
             rides: vec![0; PAIR_PLACES],
             stamps: vec![0; PAIR_PLACES],
+            revisions: vec![0; PAIR_PLACES],
             index: vec![0; INDEX_PLACES],
         };
         Memory { parts, marks: vec![0; MARK_PLACES], answers: vec![0; ANSWER_PLACES] }
@@ -296,6 +299,7 @@ fn lend_parts<'a>(memory: &'a mut Vectors, parts: &Framed) -> Slices<'a> {
         operators: lend(&mut memory.operators, &parts.operators),
         rides: lend(&mut memory.rides, &parts.rides),
         stamps: lend(&mut memory.stamps, &parts.stamps),
+        revisions: lend(&mut memory.revisions, &parts.revisions),
         index: lend(&mut memory.index, &parts.index),
     }
 }
@@ -325,8 +329,9 @@ fn head_checksum(head: Head) -> u64 {
 }
 
 fn parts_checksum(before: u64, parts: &Slices) -> u64 {
-    let Parts { operators, rides, stamps, index } = parts;
-    checksum(checksum(checksum(checksum(before, operators), rides), stamps), index)
+    let Parts { operators, rides, stamps, revisions, index } = parts;
+    let pairs = checksum(checksum(before, operators), rides);
+    checksum(checksum(checksum(pairs, stamps), revisions), index)
 }
 
 impl Call {
@@ -393,7 +398,8 @@ impl<'a> Cursor<'a> {
     }
 
     fn message(&mut self) -> Message {
-        Message { kind: self.word(), operator: self.word(), ride: self.word(), stamp: u32::get(self) }
+        let (kind, operator, ride, revision) = (self.word(), self.word(), self.word(), self.word());
+        Message { kind, operator, ride, revision, stamp: u32::get(self) }
     }
 
     fn part<T: Word + Clone + Default>(&mut self) -> Part<T> {
@@ -411,7 +417,8 @@ impl<'a> Cursor<'a> {
     }
 
     fn parts(&mut self) -> Framed {
-        Parts { operators: self.part(), rides: self.part(), stamps: self.part(), index: self.part() }
+        let (operators, rides, stamps) = (self.part(), self.part(), self.part());
+        Parts { operators, rides, stamps, revisions: self.part(), index: self.part() }
     }
 
     /// The next call, or none at the stream's end.

@@ -2,6 +2,7 @@
 //! compare the proved library with. Where a slow way is the clearer one it is taken: a cover is found by repeated
 //! removal, and levels by one cover after another.
 
+pub mod corrections;
 pub mod frames;
 pub mod samples;
 
@@ -17,12 +18,13 @@ pub struct Head {
     pub pairs: u16,
 }
 
-/// The parts of a board, in document 01's order: an `A` for each part of 16-bit words, a `B` for each of 32-bit words.
+/// The parts of a board, in the order they are lent: an `A` for each part of 16-bit words, a `B` for each of 32-bit words.
 #[derive(Clone, Debug, Default, PartialEq, Eq)]
 pub struct Parts<A, B> {
     pub operators: A,
     pub rides: A,
     pub stamps: B,
+    pub revisions: A,
     pub index: A,
 }
 
@@ -41,29 +43,41 @@ pub type Lengths = Parts<usize, usize>;
 impl Vectors {
     /// Lends every part in its whole length.
     pub fn lend(&mut self) -> Slices<'_> {
-        let Parts { operators, rides, stamps, index } = self;
-        Parts { operators, rides, stamps, index }
+        let Parts { operators, rides, stamps, revisions, index } = self;
+        Parts { operators, rides, stamps, revisions, index }
     }
 
     /// Lends every part in its whole length, to be read.
     pub fn view(&self) -> Views<'_> {
-        let Parts { operators, rides, stamps, index } = self;
-        Parts { operators, rides, stamps, index }
+        let Parts { operators, rides, stamps, revisions, index } = self;
+        Parts { operators, rides, stamps, revisions, index }
     }
 }
 
 impl Views<'_> {
     /// The same words in memory of their own.
     pub fn copy(&self) -> Vectors {
-        let Parts { operators, rides, stamps, index } = self;
-        Parts { operators: operators.to_vec(), rides: rides.to_vec(), stamps: stamps.to_vec(), index: index.to_vec() }
+        let Parts { operators, rides, stamps, revisions, index } = self;
+        Parts {
+            operators: operators.to_vec(),
+            rides: rides.to_vec(),
+            stamps: stamps.to_vec(),
+            revisions: revisions.to_vec(),
+            index: index.to_vec(),
+        }
     }
 }
 
 impl Lengths {
     /// What a function makes of each length, in the order of the parts.
     pub fn map(self, mut to: impl FnMut(usize) -> usize) -> Self {
-        Parts { operators: to(self.operators), rides: to(self.rides), stamps: to(self.stamps), index: to(self.index) }
+        Parts {
+            operators: to(self.operators),
+            rides: to(self.rides),
+            stamps: to(self.stamps),
+            revisions: to(self.revisions),
+            index: to(self.index),
+        }
     }
 }
 
@@ -88,6 +102,9 @@ pub struct Peeled {
 pub const GRANT: u16 = 1;
 pub const WITHDRAWAL: u16 = 2;
 
+/// The largest revision of a valid message.
+const LAST_REVISION: u16 = 255;
+
 /// Message: kind 1 is a grant, 2 a withdrawal.
 #[derive(Clone, Copy, Debug, PartialEq, Eq)]
 #[repr(C)]
@@ -95,6 +112,7 @@ pub struct Message {
     pub kind: u16,
     pub operator: u16,
     pub ride: u16,
+    pub revision: u16,
     pub stamp: u32,
 }
 
@@ -107,7 +125,7 @@ pub struct Answer {
 }
 
 impl Head {
-    /// The places of a pair array, and of the stamps.
+    /// The places of a pair array, of the stamps and of the revisions.
     pub fn places(self) -> usize {
         self.operators as usize * self.rides as usize
     }
@@ -124,7 +142,8 @@ impl Head {
 
     /// The places that each part needs.
     pub fn lengths(self) -> Lengths {
-        Parts { operators: self.places(), rides: self.places(), stamps: self.places(), index: self.words() }
+        let places = self.places();
+        Parts { operators: places, rides: places, stamps: places, revisions: places, index: self.words() }
     }
 }
 
@@ -133,18 +152,19 @@ type Pairs = BTreeSet<(u16, u16)>;
 
 // Refusals
 
-/// The lowest number whose test applies, or 0. A test is tried only where none before it applies.
-fn lowest(tests: &[(u16, &dyn Fn() -> bool)]) -> u16 {
+/// The number of the first test that applies, or 0. A test is tried only where none before it applies.
+fn first_of(tests: &[(u16, &dyn Fn() -> bool)]) -> u16 {
     tests.iter().find(|test| test.1()).map_or(0, |test| test.0)
 }
 
 /// Number 3 of a board: a part is shorter than needed.
 fn is_short(head: Head, parts: &Slices) -> bool {
-    let Parts { operators, rides, stamps, index } = parts;
+    let Parts { operators, rides, stamps, revisions, index } = parts;
     let needed = head.lengths();
     operators.len() < needed.operators
         || rides.len() < needed.rides
         || stamps.len() < needed.stamps
+        || revisions.len() < needed.revisions
         || index.len() < needed.index
 }
 
@@ -266,7 +286,7 @@ fn write_pairs(head: Head, pairs: &Pairs, parts: &mut Slices) {
 // The calls
 
 pub fn build(head: Head, parts: &mut Slices, start: u32) -> u16 {
-    let code = lowest(&[
+    let code = first_of(&[
         (1, &|| head.operators > 200),
         (2, &|| head.rides > 60),
         (3, &|| is_short(head, parts)),
@@ -281,21 +301,22 @@ pub fn build(head: Head, parts: &mut Slices, start: u32) -> u16 {
     write_pairs(head, &pairs, parts);
     parts.stamps[..head.places()].fill(0);
     for &(operator, ride) in &pairs {
-        parts.stamps[stamp_place(head, operator, ride)] = start;
+        parts.stamps[pair_place(head, operator, ride)] = start;
     }
+    parts.revisions[..head.places()].fill(0);
     parts.index[..head.words()].copy_from_slice(&index_of(head, &pairs));
     0
 }
 
-/// Where the stamp of a pair is.
-fn stamp_place(head: Head, operator: u16, ride: u16) -> usize {
+/// Where the stamp and the revision of a pair are.
+fn pair_place(head: Head, operator: u16, ride: u16) -> usize {
     operator as usize * head.rides as usize + ride as usize
 }
 
 /// Marks by the words of the index, whatever they are. Documents 01 and 02: with alpha 0 all operators are in, and a
 /// ride by its row 1 level; with beta 0 all rides are in, and an operator if its row alpha level is at least 1.
 pub fn query(head: Head, index: &[u16], alpha: u16, beta: u16, marks: &mut [u16]) -> Counts {
-    let code = lowest(&[
+    let code = first_of(&[
         (1, &|| head.operators > 200),
         (2, &|| head.rides > 60),
         (3, &|| index.len() < head.words() || marks.len() < head.nodes()),
@@ -342,7 +363,7 @@ pub fn peel(
     beta: u16,
     steps: u16,
 ) -> Peeled {
-    let code = lowest(&[
+    let code = first_of(&[
         (1, &|| head.operators > 200),
         (2, &|| head.rides > 60),
         (3, &|| operators.len() < head.places() || rides.len() < head.places() || marks.len() < head.nodes()),
@@ -379,13 +400,13 @@ fn first_short(head: Head, clearances: &Clearances, marks: &[u16], alpha: usize,
 /// The lowest of 1 to 6 that applies to a board that is lent to a message, a list or a preview, or 0.
 fn board_refusal(head: Head, parts: &Slices, others_short: bool) -> u16 {
     let Parts { operators, rides, stamps, .. } = parts;
-    lowest(&[
+    first_of(&[
         (1, &|| head.operators > 200),
         (2, &|| head.rides > 60),
         (3, &|| is_short(head, parts) || others_short),
         (4, &|| head.pairs as usize > head.places()),
         (5, &|| disordered(head, operators, rides)),
-        (6, &|| listed(head, operators, rides).iter().any(|&(o, r)| stamps[stamp_place(head, o, r)] == 0)),
+        (6, &|| listed(head, operators, rides).iter().any(|&(o, r)| stamps[pair_place(head, o, r)] == 0)),
     ])
 }
 
@@ -393,16 +414,18 @@ pub fn message(head: &mut Head, parts: &mut Slices, message: Message) -> Answer 
     let sizes = *head;
     let refusal = board_refusal(sizes, parts, false);
     let pair = (message.operator, message.ride);
-    let code = lowest(&[
+    let place = pair_place(sizes, message.operator, message.ride);
+    let code = first_of(&[
         (refusal, &|| refusal != 0),
         (7, &|| message.kind != GRANT && message.kind != WITHDRAWAL),
         (8, &|| message.operator >= sizes.operators || message.ride >= sizes.rides),
         (9, &|| message.stamp == 0),
+        (14, &|| message.revision > LAST_REVISION),
         (10, &|| {
-            let last = parts.stamps[stamp_place(sizes, pair.0, pair.1)];
             let is_listed = listed(sizes, parts.operators, parts.rides).contains(&pair);
-            let last_kind = if is_listed { GRANT } else { WITHDRAWAL };
-            last != 0 && !is_later((message.stamp, message.kind), (last, last_kind))
+            let kind = if is_listed { GRANT } else { WITHDRAWAL };
+            let last = Message { kind, revision: parts.revisions[place], stamp: parts.stamps[place], ..message };
+            !is_later(message, last)
         }),
     ]);
     if code != 0 {
@@ -414,7 +437,8 @@ pub fn message(head: &mut Head, parts: &mut Slices, message: Message) -> Answer 
     } else {
         pairs.remove(&pair);
     }
-    parts.stamps[stamp_place(sizes, pair.0, pair.1)] = message.stamp;
+    parts.stamps[place] = message.stamp;
+    parts.revisions[place] = message.revision;
     write_pairs(sizes, &pairs, parts);
     head.pairs = pairs.len() as u16;
     let levels = index_of(sizes, &pairs);
@@ -423,10 +447,16 @@ pub fn message(head: &mut Head, parts: &mut Slices, message: Message) -> Answer 
     Answer { code: 0, differ }
 }
 
-/// Of two messages for one pair, given as stamp and kind: the first is later than the second. At equal stamps a
-/// withdrawal is later than a grant.
-fn is_later(first: (u32, u16), second: (u32, u16)) -> bool {
-    first.0 > second.0 || (first.0 == second.0 && first.1 == WITHDRAWAL && second.1 == GRANT)
+/// Of two messages for one pair: the first is later than the second. The larger stamp is later; at equal stamps the
+/// larger revision; at both equal a withdrawal is later than a grant.
+fn is_later(first: Message, second: Message) -> bool {
+    if first.stamp != second.stamp {
+        return first.stamp > second.stamp;
+    }
+    if first.revision != second.revision {
+        return first.revision > second.revision;
+    }
+    first.kind == WITHDRAWAL && second.kind == GRANT
 }
 
 pub fn messages(head: &mut Head, parts: &mut Slices, messages: &[Message], answers: &mut [u16]) -> u16 {
@@ -462,6 +492,7 @@ fn write_board(head: Head, board: &Vectors, parts: &mut Slices) {
     parts.operators[..needed.operators].copy_from_slice(&board.operators[..needed.operators]);
     parts.rides[..needed.rides].copy_from_slice(&board.rides[..needed.rides]);
     parts.stamps[..needed.stamps].copy_from_slice(&board.stamps[..needed.stamps]);
+    parts.revisions[..needed.revisions].copy_from_slice(&board.revisions[..needed.revisions]);
     parts.index[..needed.index].copy_from_slice(&board.index[..needed.index]);
 }
 
@@ -483,7 +514,7 @@ fn cover_checked(input: &[u8], output: &mut Vec<u8>) -> u16 {
     let pairs = head.pairs as usize;
     let operators = || (3..3 + pairs).map(word).collect::<Vec<u16>>();
     let rides = || (3 + pairs..3 + 2 * pairs).map(word).collect::<Vec<u16>>();
-    let code = lowest(&[
+    let code = first_of(&[
         (1, &|| head.operators > 200),
         (2, &|| head.rides > 60),
         (4, &|| pairs > head.places()),

@@ -1,5 +1,6 @@
 //! The samples of documents 01 and 02, and the definitions against what they say of every set.
 
+use super::corrections::{Corrections, BESIDE_14, CORRECTIONS, SHORT_REVISIONS, START};
 use super::samples::{BY_NO_INDEX, LIMITS_FROM_0, NO_INDEX, PAIRS, PEELS_FROM_0, SHORT_FROM_0};
 use super::*;
 
@@ -18,6 +19,7 @@ impl Store {
             operators: vec![7; lengths.operators],
             rides: vec![7; lengths.rides],
             stamps: vec![7; lengths.stamps],
+            revisions: vec![7; lengths.revisions],
             index: vec![7; lengths.index],
         };
         for (place, pair) in pairs.iter().enumerate() {
@@ -40,8 +42,15 @@ impl Store {
         peel(self.head, &self.parts.operators, &self.parts.rides, marks, alpha, beta, steps)
     }
 
-    fn message(&mut self, kind: u16, operator: u16, ride: u16, stamp: u32) -> Answer {
-        message(&mut self.head, &mut self.parts.lend(), Message { kind, operator, ride, stamp })
+    fn message(&mut self, one: Message) -> Answer {
+        message(&mut self.head, &mut self.parts.lend(), one)
+    }
+
+    /// A list. Its own number, and those of its messages.
+    fn messages(&mut self, list: &[Message]) -> (u16, Vec<u16>) {
+        let mut answers = vec![9; list.len()];
+        let code = messages(&mut self.head, &mut self.parts.lend(), list, &mut answers);
+        (code, answers)
     }
 
     fn preview(&self, one: Message, spare: &mut Store) -> Answer {
@@ -60,6 +69,11 @@ fn sample(start: u32) -> Store {
     store
 }
 
+/// A message of revision 0.
+const fn unrevised(kind: u16, operator: u16, ride: u16, stamp: u32) -> Message {
+    Message { kind, operator, ride, revision: 0, stamp }
+}
+
 #[test]
 fn rows() {
     let board = sample(1);
@@ -70,6 +84,7 @@ fn rows() {
     assert_eq!(board.parts.operators, [0, 0, 1, 1, 2, 2, 3, 0, 0, 0, 0, 0, 7, 7]);
     assert_eq!(board.parts.rides, [0, 1, 0, 1, 1, 2, 2, 0, 0, 0, 0, 0, 7, 7]);
     assert_eq!(board.parts.stamps, [1, 1, 0, 1, 1, 0, 0, 1, 1, 0, 0, 1, 7, 7]);
+    assert_eq!(board.parts.revisions, [0, 0, 0, 0, 0, 0, 0, 0, 0, 0, 0, 0, 7, 7]);
 }
 
 #[test]
@@ -158,7 +173,7 @@ fn peels_with_limits_from_0() {
 #[test]
 fn granted() {
     let mut board = sample(1);
-    assert_eq!(board.message(GRANT, 3, 1, 2), Answer { code: 0, differ: 8 });
+    assert_eq!(board.message(unrevised(GRANT, 3, 1, 2)), Answer { code: 0, differ: 8 });
     assert_eq!(board.row(1), [4, 4, 4, 4, 2, 4, 2]);
     assert_eq!(board.row(2), [2; 7]);
     assert_eq!(board.row(3), [0; 7]);
@@ -168,10 +183,10 @@ fn granted() {
 #[test]
 fn built_at_stamp_5() {
     let mut board = sample(5);
-    assert_eq!(board.message(GRANT, 0, 0, 5), Answer { code: 10, differ: 0 });
-    assert_eq!(board.message(WITHDRAWAL, 0, 0, 5).code, 0);
+    assert_eq!(board.message(unrevised(GRANT, 0, 0, 5)), Answer { code: 10, differ: 0 });
+    assert_eq!(board.message(unrevised(WITHDRAWAL, 0, 0, 5)).code, 0);
     assert_eq!(board.head.pairs, 6);
-    assert_eq!(board.message(GRANT, 0, 0, 6).code, 0);
+    assert_eq!(board.message(unrevised(GRANT, 0, 0, 6)).code, 0);
     assert_eq!(board.head.pairs, 7);
 }
 
@@ -186,9 +201,9 @@ fn sizes() {
 #[test]
 fn an_old_grant_stays_away() {
     let mut board = sample(5);
-    assert_eq!(board.message(WITHDRAWAL, 3, 0, 9), Answer { code: 0, differ: 0 });
-    assert_eq!(board.message(GRANT, 3, 0, 9).code, 10);
-    assert_eq!(board.message(GRANT, 3, 0, 8).code, 10);
+    assert_eq!(board.message(unrevised(WITHDRAWAL, 3, 0, 9)), Answer { code: 0, differ: 0 });
+    assert_eq!(board.message(unrevised(GRANT, 3, 0, 9)).code, 10);
+    assert_eq!(board.message(unrevised(GRANT, 3, 0, 8)).code, 10);
     assert_eq!(board.head.pairs, 7);
 }
 
@@ -252,40 +267,168 @@ fn cover_is_the_largest() {
     }
 }
 
-/// For each pair of 2 by 2 a grant and a withdrawal of the stamps 4, 5 and 6.
-fn few_messages() -> [Message; 24] {
+// Corrections within one stamp
+
+/// Document 01's board, built at 5, with the stamp and the revision that a pair has before its messages.
+fn before(corrections: &Corrections) -> Store {
+    let mut board = sample(START);
+    let (_, revision, stamp) = corrections.stored;
+    let place = corrections.place();
+    (board.parts.revisions[place], board.parts.stamps[place]) = (revision, stamp);
+    board
+}
+
+/// That board with the pair's last after its messages.
+fn after(corrections: &Corrections) -> Store {
+    let (was, place, (_, revision, stamp)) = (before(corrections), corrections.place(), corrections.left);
+    let mut board = Store::new(4, 3, &corrections.pairs());
+    assert_eq!(board.build(START), 0);
+    (board.parts.stamps, board.parts.revisions) = (was.parts.stamps, was.parts.revisions);
+    (board.parts.revisions[place], board.parts.stamps[place]) = (revision, stamp);
+    board
+}
+
+/// By message calls, each with its preview first, and by a list.
+#[test]
+fn corrected() {
+    for corrections in CORRECTIONS {
+        let (messages, numbers) = (corrections.messages(), corrections.numbers());
+        let mut board = before(corrections);
+        for (one, number) in messages.iter().zip(&numbers) {
+            let came = spare(board.head, 2, 8);
+            let (answer, left) = previewed(&board, *one, came.clone());
+            assert_eq!((answer.code, board.message(*one)), (*number, answer));
+            assert_eq!(left, if answer.code == 0 { held(&board, &came) } else { came });
+        }
+        assert_eq!(board, after(corrections));
+        let mut board = before(corrections);
+        let code = if numbers[0] <= 6 { numbers[0] } else { 0 };
+        let answers = if code == 0 { numbers } else { vec![9; messages.len()] };
+        assert_eq!((board.messages(&messages), board), ((code, answers), after(corrections)));
+    }
+}
+
+#[test]
+fn numbers_beside_14() {
+    for &(one, code) in BESIDE_14 {
+        let mut board = sample(START);
+        let came = spare(board.head, 2, 8);
+        assert_eq!(previewed(&board, one, came.clone()), (Answer { code, differ: 0 }, came));
+        assert_eq!(board.message(one), Answer { code, differ: 0 });
+        assert_eq!(board.messages(&[one]), (0, vec![code]));
+        assert_eq!(board, sample(START));
+    }
+}
+
+#[test]
+fn short_revisions() {
+    for &(head, places, code) in SHORT_REVISIONS {
+        let mut came = Store { head, ..Store::new(head.operators, head.rides, &PAIRS) };
+        came.parts.revisions.truncate(places);
+        let mut board = came.clone();
+        assert_eq!((board.build(START), board == came), (code, code != 0));
+        let mut board = came.clone();
+        assert_eq!((board.message(WITHDRAWN).code, board == came), (code, code != 0));
+        let mut board = came.clone();
+        let answers = if code == 0 { vec![0] } else { vec![9] };
+        assert_eq!((board.messages(&[WITHDRAWN]), board == came), ((code, answers), code != 0));
+        assert_eq!(previewed(&came, WITHDRAWN, spare(head, 0, 8)).0.code, code);
+    }
+}
+
+/// A build writes 0 over any revisions, and leaves what lies behind.
+#[test]
+fn built_revisions() {
+    for word in [0, 1, 255, 256, 65_535] {
+        let mut board = sample(START);
+        board.parts.revisions.fill(word);
+        assert_eq!(board.build(START), 0);
+        assert_eq!(board.parts.revisions, [&[0; 12][..], &[word; 2]].concat());
+    }
+}
+
+// Demand 3 on small boards
+
+/// The pair's latest entry in the book: stamp, revision and kind; all 0 where it has none.
+type Latest = (u32, u16, u16);
+
+/// The book of a table: for each pair its latest entry.
+fn booked(head: Head, pairs: &[(u16, u16)], start: u32) -> Vec<Latest> {
+    let mut book = vec![(0, 0, 0); head.places()];
+    pairs.iter().for_each(|&(operator, ride)| book[pair_place(head, operator, ride)] = (start, 0, GRANT));
+    book
+}
+
+/// Enters a message that is in range, where it is valid.
+fn enter(book: &mut [Latest], head: Head, one: Message) {
+    if one.revision <= 255 {
+        let latest = &mut book[pair_place(head, one.operator, one.ride)];
+        *latest = (one.stamp, one.revision, one.kind).max(*latest);
+    }
+}
+
+/// The board that is worked out from a book.
+fn worked_out(head: Head, book: &[Latest]) -> Store {
+    let listed: Vec<(u16, u16)> = (0..head.operators)
+        .flat_map(|operator| (0..head.rides).map(move |ride| (operator, ride)))
+        .filter(|&(operator, ride)| book[pair_place(head, operator, ride)].2 == GRANT)
+        .collect();
+    let mut board = Store::new(head.operators, head.rides, &listed);
+    assert_eq!(board.build(1), 0);
+    for (place, &(stamp, revision, _)) in book.iter().enumerate() {
+        (board.parts.stamps[place], board.parts.revisions[place]) = (stamp, revision);
+    }
+    board
+}
+
+/// For each pair of 2 by 2 a grant and a withdrawal of the stamps 4, 5 and 6 and of the revisions 0, 1, 255 and 256.
+fn few_messages() -> [Message; 96] {
     std::array::from_fn(|place| {
         let i = place as u16;
-        Message { kind: 1 + i % 2, operator: i / 2 % 2, ride: i / 4 % 2, stamp: 4 + i as u32 / 8 }
+        let revision = [0, 1, 255, 256][place / 24];
+        Message { kind: 1 + i % 2, operator: i / 2 % 2, ride: i / 4 % 2, revision, stamp: 4 + i as u32 / 8 % 3 }
     })
 }
 
-/// Demand 3, on a small board with every message of a few: after each list of messages of the kinds 1 and 2 the board
-/// is the one worked out from the latest message of each pair.
+/// After each list of messages of the kinds 1 and 2 the board is the one worked out from the latest message of each pair.
 #[test]
 fn delivered_is_the_latest_of_each_pair() {
     let pool = few_messages();
-    let start = 5;
+    let (pairs, start) = ([(0, 1), (1, 0)], 5);
     let mut state = 1u32;
     for _ in 0..2000 {
-        let mut board = Store::new(2, 2, &[(0, 1), (1, 0)]);
+        let mut board = Store::new(2, 2, &pairs);
         assert_eq!(board.build(start), 0);
-        let mut latest = [(0, 0), (start, GRANT), (start, GRANT), (0, 0)];
-        for _ in 0..12 {
+        let mut book = booked(board.head, &pairs, start);
+        for _ in 0..24 {
             state = state.wrapping_mul(1_664_525).wrapping_add(1_013_904_223);
             let one = pool[(state >> 16) as usize % pool.len()];
-            board.message(one.kind, one.operator, one.ride, one.stamp);
-            let place = (2 * one.operator + one.ride) as usize;
-            latest[place] = latest[place].max((one.stamp, one.kind));
-            let listed: Vec<(u16, u16)> =
-                (0..4).filter(|p| latest[*p].1 == GRANT).map(|p| ((p / 2) as u16, (p % 2) as u16)).collect();
-            let mut fresh = Store::new(2, 2, &listed);
-            assert_eq!(fresh.build(start), 0);
-            assert_eq!(board.head, fresh.head);
-            assert_eq!(board.parts.operators, fresh.parts.operators);
-            assert_eq!(board.parts.rides, fresh.parts.rides);
-            assert_eq!(board.parts.index, fresh.parts.index);
-            assert_eq!(board.parts.stamps[..4], latest.map(|entry| entry.0));
+            board.message(one);
+            enter(&mut book, board.head, one);
+            assert_eq!(board, worked_out(board.head, &book));
+        }
+    }
+}
+
+/// Every list of three messages for one pair, listed or not, by message calls and by a list.
+#[test]
+fn three_messages_for_one_pair() {
+    let pool: Vec<Message> = few_messages().into_iter().filter(|one| (one.operator, one.ride) == (0, 0)).collect();
+    let lists = pool.iter().flat_map(|a| pool.iter().flat_map(|b| pool.iter().map(|c| [*a, *b, *c])));
+    let built = [&[][..], &[(0, 0)]].map(|pairs| {
+        let mut board = Store::new(1, 1, pairs);
+        assert_eq!(board.build(5), 0);
+        let book = booked(board.head, pairs, 5);
+        (board, book)
+    });
+    for list in lists {
+        for (board, book) in &built {
+            let (mut sent, mut listed, mut book) = (board.clone(), board.clone(), book.clone());
+            let answers: Vec<u16> = list.iter().map(|one| sent.message(*one).code).collect();
+            assert_eq!(listed.messages(&list), (0, answers));
+            list.iter().for_each(|one| enter(&mut book, board.head, *one));
+            let expected = worked_out(board.head, &book);
+            assert_eq!((&sent, &listed), (&expected, &expected));
         }
     }
 }
@@ -295,22 +438,29 @@ fn delivered_is_the_latest_of_each_pair() {
 const NO_HEAD: Head = Head { operators: 65535, rides: 65535, pairs: 65535 };
 
 /// On document 01's board, built at 5: a withdrawal that is taken.
-const WITHDRAWN: Message = Message { kind: WITHDRAWAL, operator: 1, ride: 0, stamp: 9 };
+const WITHDRAWN: Message = Message { kind: WITHDRAWAL, operator: 1, ride: 0, revision: 4, stamp: 9 };
 
 /// Spare memory for a board of this head: one word in every place, the head of no board, and so many places more in each
 /// part than are needed.
 fn spare(head: Head, longer: usize, word: u16) -> Store {
-    let Lengths { operators, rides, stamps, index } = head.lengths().map(|needed| needed + longer);
-    let (operators, rides, index) = (vec![word; operators], vec![word; rides], vec![word; index]);
-    Store { head: NO_HEAD, parts: Parts { operators, rides, stamps: vec![word as u32; stamps], index } }
+    let lengths = head.lengths().map(|needed| needed + longer);
+    let parts = Parts {
+        operators: vec![word; lengths.operators],
+        rides: vec![word; lengths.rides],
+        stamps: vec![word as u32; lengths.stamps],
+        revisions: vec![word; lengths.revisions],
+        index: vec![word; lengths.index],
+    };
+    Store { head: NO_HEAD, parts }
 }
 
-/// Cuts the last place of one of the four parts.
+/// Cuts the last place of one of the five parts.
 fn cut(parts: &mut Vectors, part: usize) {
     match part {
         0 => drop(parts.operators.pop()),
         1 => drop(parts.rides.pop()),
         2 => drop(parts.stamps.pop()),
+        3 => drop(parts.revisions.pop()),
         _ => drop(parts.index.pop()),
     }
 }
@@ -323,7 +473,7 @@ fn previewed(board: &Store, one: Message, mut spare: Store) -> (Answer, Store) {
     (answer, spare)
 }
 
-/// For each of 1 to 10 boards and messages that it alone applies to.
+/// For each of 1 to 10 and 14 boards and messages that it alone applies to.
 fn refused() -> Vec<(u16, Store, Message)> {
     let changed = |code, change: fn(&mut Store, &mut Message)| {
         let (mut board, mut one) = (sample(5), WITHDRAWN);
@@ -336,6 +486,7 @@ fn refused() -> Vec<(u16, Store, Message)> {
         changed(3, |board, _| board.parts.operators.truncate(11)),
         changed(3, |board, _| board.parts.rides.truncate(11)),
         changed(3, |board, _| board.parts.stamps.truncate(11)),
+        changed(3, |board, _| board.parts.revisions.truncate(11)),
         changed(3, |board, _| board.parts.index.truncate(20)),
         changed(4, |board, _| board.head.pairs = 13),
         changed(5, |board, _| board.parts.operators[6] = 4),
@@ -347,7 +498,10 @@ fn refused() -> Vec<(u16, Store, Message)> {
         changed(8, |_, one| one.ride = 3),
         changed(9, |_, one| one.stamp = 0),
         changed(10, |_, one| one.stamp = 4),
-        changed(10, |_, one| (one.kind, one.stamp) = (GRANT, 5)),
+        changed(10, |_, one| *one = unrevised(GRANT, 1, 0, 5)),
+        changed(10, |board, one| (board.parts.stamps[3], board.parts.revisions[3]) = (one.stamp, 5)),
+        changed(14, |_, one| one.revision = 256),
+        changed(14, |_, one| one.revision = 65_535),
     ]
 }
 
@@ -362,6 +516,7 @@ fn previewed_withdrawal() {
     assert_eq!(spare.parts.operators, [0, 0, 1, 2, 2, 3, 0, 0, 0, 0, 0, 0, 8, 8, 8]);
     assert_eq!(spare.parts.rides, [0, 1, 1, 1, 2, 2, 0, 0, 0, 0, 0, 0, 8, 8, 8]);
     assert_eq!(spare.parts.stamps, [5, 5, 0, 9, 5, 0, 0, 5, 5, 0, 0, 5, 8, 8, 8]);
+    assert_eq!(spare.parts.revisions, [0, 0, 0, 4, 0, 0, 0, 0, 0, 0, 0, 0, 8, 8, 8]);
     assert_eq!(spare.row(1), [3, 3, 3, 2, 1, 3, 2]);
     assert_eq!(spare.row(2), [1, 0, 1, 0, 1, 1, 1]);
     assert_eq!(spare.row(3), [0; 7]);
@@ -372,27 +527,30 @@ fn previewed_withdrawal() {
 
 #[test]
 fn previewed_grant() {
-    let board = sample(1);
-    let one = Message { kind: GRANT, operator: 3, ride: 1, stamp: 2 };
+    let mut board = sample(1);
+    board.parts.revisions[0] = 300;
+    let one = Message { kind: GRANT, operator: 3, ride: 1, revision: 255, stamp: 2 };
     let (answer, spare) = previewed(&board, one, spare(board.head, 1, 8));
     assert_eq!(answer, Answer { code: 0, differ: 8 });
     assert_eq!(spare.head, Head { operators: 4, rides: 3, pairs: 8 });
     assert_eq!(spare.parts.operators, [0, 0, 1, 1, 2, 2, 3, 3, 0, 0, 0, 0, 8]);
     assert_eq!(spare.parts.rides, [0, 1, 0, 1, 1, 2, 1, 2, 0, 0, 0, 0, 8]);
     assert_eq!(spare.parts.stamps, [1, 1, 0, 1, 1, 0, 0, 1, 1, 0, 2, 1, 8]);
+    assert_eq!(spare.parts.revisions, [300, 0, 0, 0, 0, 0, 0, 0, 0, 0, 255, 0, 8]);
     assert_eq!(spare.row(1), [4, 4, 4, 4, 2, 4, 2]);
     assert_eq!(spare.row(2), [2; 7]);
     assert_eq!(spare.row(3), [0; 7]);
     assert_eq!(spare.parts.index[21..], [8]);
 }
 
-/// A withdrawal of a pair never granted is taken for its stamp: no index word differs, and the words are copied.
+/// A withdrawal of a pair never granted is taken for its stamp and revision: no index word differs, and the words are
+/// copied.
 #[test]
 fn previewed_stamp() {
     let board = sample(5);
-    let one = Message { kind: WITHDRAWAL, operator: 3, ride: 0, stamp: 9 };
+    let one = Message { kind: WITHDRAWAL, operator: 3, ride: 0, revision: 2, stamp: 9 };
     let mut expected = board.clone();
-    expected.parts.stamps[9] = 9;
+    (expected.parts.stamps[9], expected.parts.revisions[9]) = (9, 2);
     let mut came = spare(board.head, 2, 7);
     came.head = Head { operators: 0, rides: 0, pairs: 0 };
     assert_eq!(previewed(&board, one, came), (Answer { code: 0, differ: 0 }, expected));
@@ -426,7 +584,7 @@ fn short_spare_memory() {
     let taken = (0, sample(5), WITHDRAWN);
     assert_eq!(previewed(&taken.1, taken.2, spare(taken.1.head, 0, 8)).0.code, 0);
     for (code, board, one) in refused().into_iter().chain([taken]) {
-        for part in 0..4 {
+        for part in 0..5 {
             let mut came = spare(board.head, 0, 8);
             cut(&mut came.parts, part);
             let code = if code == 1 || code == 2 { code } else { 3 };
@@ -439,7 +597,7 @@ fn short_spare_memory() {
 fn sizes_of_previews() {
     for (operators, rides, code) in [(200, 60, 0), (201, 60, 1), (200, 61, 2), (201, 61, 1)] {
         let board = Store::new(operators, rides, &[(3, 4)]);
-        let one = Message { kind: WITHDRAWAL, operator: 3, ride: 4, stamp: 9 };
+        let one = unrevised(WITHDRAWAL, 3, 4, 9);
         assert_eq!(previewed(&board, one, spare(board.head, 0, 8)).0.code, code);
     }
 }
@@ -452,7 +610,7 @@ fn previews_of_boards_without_pairs() {
         let mut board = Store::new(operators, rides, &[]);
         assert_eq!(board.build(5), 0);
         for (kind, code) in [(GRANT, 8), (WITHDRAWAL, 8), (3, 7)] {
-            let one = Message { kind, operator: 0, ride: 0, stamp: 9 };
+            let one = unrevised(kind, 0, 0, 9);
             let mut came = spare(board.head, 0, 8);
             assert_eq!(previewed(&board, one, came.clone()), (Answer { code, differ: 0 }, came.clone()));
             if came.parts.index.pop().is_some() {
@@ -474,6 +632,7 @@ fn held(board: &Store, came: &Store) -> Store {
         operators: joined(&new.operators, &old.operators, needed.operators),
         rides: joined(&new.rides, &old.rides, needed.rides),
         stamps: joined(&new.stamps, &old.stamps, needed.stamps),
+        revisions: joined(&new.revisions, &old.revisions, needed.revisions),
         index: joined(&new.index, &old.index, needed.index),
     };
     Store { head: board.head, parts }
@@ -491,7 +650,7 @@ fn previews_are_what_the_message_does() {
             assert_eq!(board.build(5), 0);
             let spares = [spare(board.head, 2, 7), Store { head: board.head, ..spare(board.head, 0, 65535) }];
             let outcomes = spares.clone().map(|came| previewed(&board, one, came));
-            let sent = board.message(one.kind, one.operator, one.ride, one.stamp);
+            let sent = board.message(one);
             for (came, outcome) in spares.into_iter().zip(outcomes) {
                 let left = if sent.code == 0 { held(&board, &came) } else { came };
                 assert_eq!(outcome, (sent, left));
@@ -505,12 +664,13 @@ fn previews_are_what_the_message_does() {
 fn frames_are_read_as_written() {
     use crate::frames::{write_end, Call, Cursor, Part};
     let head = Head { operators: 4, rides: 3, pairs: 65535 };
-    let one = Message { kind: 1, operator: 2, ride: 3, stamp: 4_294_901_760 };
+    let one = Message { kind: 1, operator: 2, ride: 3, revision: 4, stamp: 4_294_901_760 };
     let kept = Part::kept(12);
     let given = Part::given(14, &[1, 65535], 256);
     let changed = Part::changed(21, 19, &[5, 6, 7]);
-    let (stamps, index) = (Part::given(12, &[70_000, 1], 65_536), Part::filled(3, 1));
-    let parts = Parts { operators: kept.clone(), rides: given.clone(), stamps, index };
+    let (stamps, revisions, index) =
+        (Part::given(12, &[70_000, 1], 65_536), Part::given(13, &[256, 2], 3), Part::filled(3, 1));
+    let parts = Parts { operators: kept.clone(), rides: given.clone(), stamps, revisions, index };
     let calls = [
         Call::Build { head, start: 65_537, parts: parts.clone() },
         Call::Query { head, alpha: 1, beta: 2, index: changed.clone(), marks: given.clone() },

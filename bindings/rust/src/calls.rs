@@ -32,19 +32,28 @@ pub struct Message {
     pub operator: u16,
     /// The pair's ride, below the head's rides.
     pub ride: u16,
+    /// Which correction within its stamp it is, up to 255: at equal stamps the later has the larger revision. At both equal
+    /// a withdrawal is later than a grant.
+    pub revision: u16,
     /// When it was sent, from 1: of two messages for one pair the later has the larger stamp.
     pub stamp: u32,
 }
 
 impl Message {
-    /// A grant of a pair, sent at `stamp`.
+    /// A grant of a pair, sent at `stamp`, with revision 0.
     pub const fn grant(operator: u16, ride: u16, stamp: u32) -> Message {
-        Message { kind: GRANT, operator, ride, stamp }
+        Message { kind: GRANT, operator, ride, revision: 0, stamp }
     }
 
-    /// A withdrawal of a pair, sent at `stamp`.
+    /// A withdrawal of a pair, sent at `stamp`, with revision 0.
     pub const fn withdrawal(operator: u16, ride: u16, stamp: u32) -> Message {
-        Message { kind: WITHDRAWAL, operator, ride, stamp }
+        Message { kind: WITHDRAWAL, operator, ride, revision: 0, stamp }
+    }
+
+    /// The message with another revision.
+    #[must_use]
+    pub const fn with_revision(self, revision: u16) -> Message {
+        Message { revision, ..self }
     }
 }
 
@@ -66,14 +75,15 @@ pub struct Peeled {
     pub steps: u16,
 }
 
-/// Build: zeroes the tails of the pair arrays, sets the stamps of listed pairs to `start` and the others to 0, and fills
-/// the index.
+/// Build: zeroes the tails of the pair arrays and the revisions, sets the stamps of listed pairs to `start` and the others
+/// to 0, and fills the index.
 pub fn build(
     head: Head,
     operators: &mut [u16],
     rides: &mut [u16],
     start: u32,
     stamps: &mut [u32],
+    revisions: &mut [u16],
     index: &mut [u16],
 ) -> Result<(), Refusal> {
     Refusal::check(unsafe {
@@ -86,6 +96,8 @@ pub fn build(
             start,
             stamps.as_mut_ptr(),
             stamps.len(),
+            revisions.as_mut_ptr(),
+            revisions.len(),
             index.as_mut_ptr(),
             index.len(),
         )
@@ -138,6 +150,7 @@ pub fn message(
     operators: &mut [u16],
     rides: &mut [u16],
     stamps: &mut [u32],
+    revisions: &mut [u16],
     index: &mut [u16],
     message: Message,
 ) -> Result<u16, Refusal> {
@@ -150,6 +163,8 @@ pub fn message(
             rides.len(),
             stamps.as_mut_ptr(),
             stamps.len(),
+            revisions.as_mut_ptr(),
+            revisions.len(),
             index.as_mut_ptr(),
             index.len(),
             message,
@@ -161,11 +176,13 @@ pub fn message(
 
 /// Message list: takes messages in order; the number of each goes to its place of the answer list. The result reads
 /// those numbers.
+#[allow(clippy::too_many_arguments)]
 pub fn messages<'a>(
     head: &mut Head,
     operators: &mut [u16],
     rides: &mut [u16],
     stamps: &mut [u32],
+    revisions: &mut [u16],
     index: &mut [u16],
     messages: &[Message],
     answers: &'a mut [u16],
@@ -179,6 +196,8 @@ pub fn messages<'a>(
             rides.len(),
             stamps.as_mut_ptr(),
             stamps.len(),
+            revisions.as_mut_ptr(),
+            revisions.len(),
             index.as_mut_ptr(),
             index.len(),
             messages.as_ptr(),
@@ -201,12 +220,14 @@ pub fn preview(
     operators: &[u16],
     rides: &[u16],
     stamps: &[u32],
+    revisions: &[u16],
     index: &[u16],
     message: Message,
     spare_head: &mut Head,
     spare_operators: &mut [u16],
     spare_rides: &mut [u16],
     spare_stamps: &mut [u32],
+    spare_revisions: &mut [u16],
     spare_index: &mut [u16],
 ) -> Result<u16, Refusal> {
     let answer = unsafe {
@@ -218,6 +239,8 @@ pub fn preview(
             rides.len(),
             stamps.as_ptr(),
             stamps.len(),
+            revisions.as_ptr(),
+            revisions.len(),
             index.as_ptr(),
             index.len(),
             message,
@@ -228,6 +251,8 @@ pub fn preview(
             spare_rides.len(),
             spare_stamps.as_mut_ptr(),
             spare_stamps.len(),
+            spare_revisions.as_mut_ptr(),
+            spare_revisions.len(),
             spare_index.as_mut_ptr(),
             spare_index.len(),
         )

@@ -16,6 +16,8 @@ pub struct Parts<'m> {
     pub rides: &'m mut [u16],
     /// The stamp of each pair, listed or not, [`pair_places`] long.
     pub stamps: &'m mut [u32],
+    /// The revision of each pair, listed or not, [`pair_places`] long.
+    pub revisions: &'m mut [u16],
     /// The levels, [`index_places`] long.
     pub index: &'m mut [u16],
 }
@@ -25,7 +27,7 @@ impl Parts<'_> {
     /// one reads them before they are written there.
     fn check_build(&self, operators: u16, rides: u16, pairs: &[(u16, u16)], start: u32) -> Result<(), Refusal> {
         let places = pair_places(operators, rides);
-        let shortest = self.operators.len().min(self.rides.len()).min(self.stamps.len());
+        let shortest = self.operators.len().min(self.rides.len()).min(self.stamps.len()).min(self.revisions.len());
         if OPERATORS_MOST < operators {
             return Err(Refusal::OperatorsOver);
         }
@@ -54,6 +56,7 @@ pub struct Memory {
     operators: [u16; PAIR_PLACES],
     rides: [u16; PAIR_PLACES],
     stamps: [u32; PAIR_PLACES],
+    revisions: [u16; PAIR_PLACES],
     index: [u16; INDEX_PLACES],
 }
 
@@ -64,6 +67,7 @@ impl Memory {
             operators: [0; PAIR_PLACES],
             rides: [0; PAIR_PLACES],
             stamps: [0; PAIR_PLACES],
+            revisions: [0; PAIR_PLACES],
             index: [0; INDEX_PLACES],
         }
     }
@@ -74,6 +78,7 @@ impl Memory {
             operators: &mut self.operators,
             rides: &mut self.rides,
             stamps: &mut self.stamps,
+            revisions: &mut self.revisions,
             index: &mut self.index,
         }
     }
@@ -83,6 +88,21 @@ impl Default for Memory {
     fn default() -> Memory {
         Memory::new()
     }
+}
+
+/// The words of a board: its parts to the lengths that it uses.
+#[derive(Clone, Copy, Debug, PartialEq, Eq)]
+pub struct Words<'b> {
+    /// The operator numbers of the pairs, then zeros.
+    pub operators: &'b [u16],
+    /// The ride numbers of the pairs, then zeros.
+    pub rides: &'b [u16],
+    /// The stamp of each pair, listed or not.
+    pub stamps: &'b [u32],
+    /// The revision of each pair, listed or not.
+    pub revisions: &'b [u16],
+    /// The levels.
+    pub index: &'b [u16],
 }
 
 /// A board in lent memory. While it lives its own calls alone write that memory, so that of 1 to 6 only an argument of
@@ -95,7 +115,7 @@ pub struct Board<'m> {
 
 impl<'m> Board<'m> {
     /// Builds a board of these pairs, strictly ascending by operator and then ride, in lent memory. They count as granted
-    /// at the stamp `start`, from 1.
+    /// at the stamp `start`, from 1, with revision 0.
     ///
     /// Refuses with 1 to 5 and 9. A board that stood in the memory is then as it was, and [`Board::attach`] takes it up.
     pub fn build(
@@ -110,15 +130,16 @@ impl<'m> Board<'m> {
         for (place, pair) in pairs.iter().enumerate() {
             (parts.operators[place], parts.rides[place]) = *pair;
         }
-        build(head, parts.operators, parts.rides, start, parts.stamps, parts.index)?;
+        build(head, parts.operators, parts.rides, start, parts.stamps, parts.revisions, parts.index)?;
         Ok(Board { head, parts })
     }
 
     /// Takes up the board that stands in lent memory, as after a restart, with the head that was stored beside it.
     /// Writes nothing.
     ///
-    /// Refuses with 1 to 6. They say nothing of the index, nor of a stamp that is not 0. A damaged index gives wrong
-    /// covers until a taken message fills it anew; a [`peel`](Board::peel) from all ones finds a cover without it.
+    /// Refuses with 1 to 6. They say nothing of the index, nor of a stamp that is not 0, nor of a revision. A damaged index
+    /// gives wrong covers until a taken message fills it anew; a [`peel`](Board::peel) from all ones finds a cover without
+    /// it.
     pub fn attach(parts: Parts<'m>, head: Head) -> Result<Board<'m>, Refusal> {
         let mut board = Board { head, parts };
         // A list call checks the board before its first message; this one has none.
@@ -139,8 +160,18 @@ impl<'m> Board<'m> {
 
     /// The stamp of a pair's last message, 0 where none was heard of; `None` out of range.
     pub fn stamp(&self, operator: u16, ride: u16) -> Option<u32> {
+        self.place(operator, ride).map(|place| self.parts.stamps[place])
+    }
+
+    /// The revision of a pair's last message, 0 where none was heard of; `None` out of range.
+    pub fn revision(&self, operator: u16, ride: u16) -> Option<u16> {
+        self.place(operator, ride).map(|place| self.parts.revisions[place])
+    }
+
+    /// The place of a pair among the stamps, and among the revisions; `None` out of range.
+    fn place(&self, operator: u16, ride: u16) -> Option<usize> {
         let in_range = operator < self.head.operators && ride < self.head.rides;
-        in_range.then(|| self.parts.stamps[operator as usize * self.head.rides as usize + ride as usize])
+        in_range.then(|| operator as usize * self.head.rides as usize + ride as usize)
     }
 
     /// The levels of row alpha, operators first, then rides; `None` where the index has no such row. There is no row 0: a
@@ -151,12 +182,17 @@ impl<'m> Board<'m> {
         in_range.then(|| &self.parts.index[(alpha as usize - 1) * width..alpha as usize * width])
     }
 
-    /// The parts to the lengths that the board uses: operators, rides, stamps, index.
-    pub fn words(&self) -> (&[u16], &[u16], &[u32], &[u16]) {
+    /// The parts to the lengths that the board uses.
+    pub fn words(&self) -> Words<'_> {
         let places = pair_places(self.head.operators, self.head.rides);
-        let words = index_places(self.head.operators, self.head.rides);
         let parts = &self.parts;
-        (&parts.operators[..places], &parts.rides[..places], &parts.stamps[..places], &parts.index[..words])
+        Words {
+            operators: &parts.operators[..places],
+            rides: &parts.rides[..places],
+            stamps: &parts.stamps[..places],
+            revisions: &parts.revisions[..places],
+            index: &parts.index[..index_places(self.head.operators, self.head.rides)],
+        }
     }
 
     /// Query: writes the marks of cover (alpha, beta), and counts them. A limit of 0 is no limit.
@@ -181,13 +217,14 @@ impl<'m> Board<'m> {
     /// Takes one message; the number of index words that differ before and after.
     pub fn message(&mut self, one: Message) -> Result<u16, Refusal> {
         let parts = &mut self.parts;
-        message(&mut self.head, parts.operators, parts.rides, parts.stamps, parts.index, one)
+        message(&mut self.head, parts.operators, parts.rides, parts.stamps, parts.revisions, parts.index, one)
     }
 
     /// Takes a list of messages in order, over an answer list at least as long.
     pub fn messages<'a>(&mut self, list: &[Message], answers: &'a mut [u16]) -> Result<Answers<'a>, Refusal> {
         let parts = &mut self.parts;
-        messages(&mut self.head, parts.operators, parts.rides, parts.stamps, parts.index, list, answers)
+        let Parts { operators, rides, stamps, revisions, index } = parts;
+        messages(&mut self.head, operators, rides, stamps, revisions, index, list, answers)
     }
 
     /// What a message would do: the number of index words that would differ, and the board as the message would leave it,
@@ -214,12 +251,14 @@ impl<'m> Board<'m> {
             parts.operators,
             parts.rides,
             parts.stamps,
+            parts.revisions,
             parts.index,
             one,
             &mut head,
             spare.operators,
             spare.rides,
             spare.stamps,
+            spare.revisions,
             spare.index,
         )?;
         Ok((differ, Board { head, parts: spare }))

@@ -25,7 +25,7 @@ pub use answers::Answers;
 pub use calls::{build, message, messages, peel, preview, query};
 pub use calls::{Counts, Head, Message, Peeled};
 pub use calls::{GRANT, WITHDRAWAL};
-pub use held::{Board, Cover, Memory, Parts};
+pub use held::{Board, Cover, Memory, Parts, Words};
 pub use refusal::Refusal;
 
 /// The most operators of a board.
@@ -33,7 +33,10 @@ pub const OPERATORS_MOST: u16 = 200;
 /// The most rides of a board.
 pub const RIDES_MOST: u16 = 60;
 
-/// The length of each pair array, and of the stamps.
+/// The largest revision of a message.
+pub const REVISION_MOST: u16 = 255;
+
+/// The length of each pair array, of the stamps and of the revisions.
 pub const fn pair_places(operators: u16, rides: u16) -> usize {
     operators as usize * rides as usize
 }

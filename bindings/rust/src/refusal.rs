@@ -49,6 +49,7 @@ refusals! {
     11 LimitZero "retired: limits may be 0"
     12 MarkUnknown "peel: a mark in use is not 0 or 1"
     13 InputLengthWrong "program: input length wrong"
+    14 RevisionOver "message: revision over 255"
 }
 
 impl Refusal {

@@ -6,7 +6,7 @@ use board::*;
 use lent::Lent;
 
 const PAIRS: [(u16, u16); 7] = [(0, 0), (0, 1), (1, 0), (1, 1), (2, 1), (2, 2), (3, 2)];
-const LENGTHS: [usize; 4] = [12, 12, 12, 21];
+const LENGTHS: [usize; 5] = [12, 12, 12, 12, 21];
 
 /// Document 01's board in parts longer than it needs, and its head.
 fn stored() -> (Lent, Head) {
@@ -20,17 +20,20 @@ fn stored() -> (Lent, Head) {
 fn the_board_goes_on() {
     let (mut lent, _) = stored();
     let mut board = Board::attach(lent.parts(), Head { operators: 4, rides: 3, pairs: 7 }).unwrap();
-    board.message(Message::grant(3, 1, 9)).unwrap();
+    board.message(Message::grant(3, 1, 9).with_revision(2)).unwrap();
     let head = board.head();
-    let (operators, rides, stamps, index) = board.words();
-    let mut copy =
-        Lent { operators: operators.to_vec(), rides: rides.to_vec(), stamps: stamps.to_vec(), index: index.to_vec() };
+    let mut copy = Lent::from(board.words());
     let before = copy.clone();
     let mut attached = Board::attach(copy.parts(), head).unwrap();
     assert_eq!((attached.head(), head.pairs), (head, 8));
-    for message in
-        [None, Some(Message::withdrawal(0, 0, 4)), Some(Message::withdrawal(0, 0, 6)), Some(Message::grant(3, 0, 7))]
-    {
+    let later = [
+        Message::withdrawal(0, 0, 4),
+        Message::withdrawal(0, 0, 6),
+        Message::withdrawal(3, 1, 9).with_revision(1),
+        Message::withdrawal(3, 1, 9).with_revision(2),
+        Message::grant(3, 0, 7),
+    ];
+    for message in std::iter::once(None).chain(later.map(Some)) {
         if let Some(one) = message {
             assert_eq!(attached.message(one), board.message(one));
         }
@@ -57,7 +60,7 @@ fn refusals() {
     assert_eq!(attach(lent.clone(), LENGTHS, head), Ok(head));
     assert_eq!(attach(lent.clone(), whole, Head { operators: 201, ..head }), Err(Refusal::OperatorsOver));
     assert_eq!(attach(lent.clone(), whole, Head { rides: 61, ..head }), Err(Refusal::RidesOver));
-    for part in 0..4 {
+    for part in 0..LENGTHS.len() {
         let mut lengths = LENGTHS;
         lengths[part] -= 1;
         assert_eq!(attach(lent.clone(), lengths, head), Err(Refusal::PartShort));
@@ -96,5 +99,20 @@ fn a_damaged_index() {
     assert_eq!(board.cover(4, 0).unwrap().counts(), Counts { operators: 0, rides: 3 });
     assert_eq!(board.message(Message::grant(0, 0, 6)), Ok(21));
     assert_eq!(board.cover(2, 2).unwrap().counts(), Counts { operators: 2, rides: 2 });
-    assert!(board.words().3 == [3, 3, 3, 2, 2, 3, 2, 2, 2, 1, 0, 2, 2, 1, 0, 0, 0, 0, 0, 0, 0]);
+    assert!(board.words().index == [3, 3, 3, 2, 2, 3, 2, 2, 2, 1, 0, 2, 2, 1, 0, 0, 0, 0, 0, 0, 0]);
+}
+
+/// A stored revision over 255, which no call writes, is taken up and compared as a number.
+#[test]
+fn a_revision_over_255() {
+    let (mut lent, head) = stored();
+    lent.revisions[0] = 300;
+    let mut board = Board::attach(lent.parts(), head).unwrap();
+    assert_eq!(board.revision(0, 0), Some(300));
+    assert_eq!(board.message(Message::withdrawal(0, 0, 5).with_revision(255)), Err(Refusal::NotLater));
+    assert_eq!(board.message(Message::withdrawal(0, 0, 5).with_revision(301)), Err(Refusal::RevisionOver));
+    assert!(board.message(Message::grant(0, 1, 5).with_revision(1)).is_ok());
+    assert_eq!(board.revision(0, 0), Some(300));
+    assert!(board.message(Message::withdrawal(0, 0, 6)).is_ok());
+    assert_eq!((board.stamp(0, 0), board.revision(0, 0)), (Some(6), Some(0)));
 }

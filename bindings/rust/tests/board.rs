@@ -152,23 +152,32 @@ fn a_list_is_its_messages() {
     let list = [
         Message::withdrawal(3, 2, 9),
         Message::grant(3, 2, 8),
-        Message { kind: 9, operator: 0, ride: 0, stamp: 1 },
-        Message::grant(2, 0, 7),
+        Message { kind: 9, stamp: 1, ..Message::default() },
+        Message::grant(2, 0, 7).with_revision(256),
+        Message::grant(2, 0, 7).with_revision(2),
+        Message::withdrawal(2, 0, 7).with_revision(1),
     ];
     let (mut memory, mut other) = (Memory::new(), Memory::new());
     let mut board = sample(&mut memory, 5);
-    let mut answers = [77; 5];
+    let mut answers = [77; 7];
     let read = board.messages(&list, &mut answers).unwrap();
-    assert!(read.iter().eq([Ok(()), Err(Refusal::NotLater), Err(Refusal::KindUnknown), Ok(())]));
-    assert_eq!((read.get(1), read.get(3), read.get(4)), (Some(Err(Refusal::NotLater)), Some(Ok(())), None));
+    assert!(read.iter().eq([
+        Ok(()),
+        Err(Refusal::NotLater),
+        Err(Refusal::KindUnknown),
+        Err(Refusal::RevisionOver),
+        Ok(()),
+        Err(Refusal::NotLater),
+    ]));
+    assert_eq!((read.get(1), read.get(4), read.get(6)), (Some(Err(Refusal::NotLater)), Some(Ok(())), None));
     let mut one_by_one = sample(&mut other, 5);
     for (message, answer) in list.into_iter().zip(read) {
         assert_eq!(one_by_one.message(message).map(|_| ()), answer);
     }
-    assert_eq!(answers, [0, 10, 7, 0, 77]);
+    assert_eq!(answers, [0, 10, 7, 14, 0, 10, 77]);
     assert_eq!(board.head(), one_by_one.head());
     assert_eq!(board.words(), one_by_one.words());
-    assert_eq!(board.messages(&list, &mut answers[..3]), Err(Refusal::PartShort));
+    assert_eq!(board.messages(&list, &mut answers[..5]), Err(Refusal::PartShort));
     assert_eq!(board.messages(&[], &mut []).unwrap().iter().len(), 0);
 }
 
@@ -176,32 +185,31 @@ fn a_list_is_its_messages() {
 #[test]
 fn lengths() {
     let head = Head { operators: 4, rides: 3, pairs: 7 };
-    for short in 0..5 {
+    for short in 0..6 {
         let length = |part, places: usize| if part == short { places - 1 } else { places + 2 };
         let mut operators = [7; 14];
         let mut rides = [7; 14];
         for (place, pair) in SAMPLE.iter().enumerate() {
             (operators[place], rides[place]) = *pair;
         }
-        let (mut stamps, mut index) = ([7; 14], [7; 23]);
-        let before = (operators, rides, stamps, index);
+        let (mut stamps, mut revisions, mut index) = ([7; 14], [7; 14], [7; 23]);
+        let before = (operators, rides, stamps, revisions, index);
         let answer = build(
             head,
             &mut operators[..length(0, 12)],
             &mut rides[..length(1, 12)],
             1,
             &mut stamps[..length(2, 12)],
-            &mut index[..length(3, 21)],
+            &mut revisions[..length(3, 12)],
+            &mut index[..length(4, 21)],
         );
-        if short < 4 {
+        if short < 5 {
             assert_eq!(answer, Err(Refusal::PartShort));
-            assert_eq!((operators, rides, stamps, index), before);
+            assert_eq!((operators, rides, stamps, revisions, index), before);
         } else {
             assert_eq!(answer, Ok(()));
-            assert_eq!(
-                (&operators[12..], &rides[12..], &stamps[12..], &index[21..]),
-                (&[7; 2][..], &[7; 2][..], &[7; 2][..], &[7; 2][..])
-            );
+            let tails = [&operators[12..], &rides[12..], &revisions[12..], &index[21..]];
+            assert_eq!((tails, &stamps[12..]), ([&[7; 2][..]; 4], &[7; 2][..]));
         }
     }
     let mut marks = [9; 7];
@@ -217,18 +225,18 @@ fn lengths() {
 #[test]
 fn a_stamp_missing() {
     let mut head = Head { operators: 1, rides: 1, pairs: 1 };
-    let (mut operators, mut rides, mut stamps, mut index) = ([0], [0], [0], [5, 5]);
+    let (mut operators, mut rides, mut stamps, mut revisions, mut index) = ([0], [0], [0], [3], [5, 5]);
     let mut answers = [9];
     let one = Message::withdrawal(0, 0, 3);
     assert_eq!(
-        message(&mut head, &mut operators, &mut rides, &mut stamps, &mut index, one),
+        message(&mut head, &mut operators, &mut rides, &mut stamps, &mut revisions, &mut index, one),
         Err(Refusal::StampMissing)
     );
     assert_eq!(
-        messages(&mut head, &mut operators, &mut rides, &mut stamps, &mut index, &[one], &mut answers),
+        messages(&mut head, &mut operators, &mut rides, &mut stamps, &mut revisions, &mut index, &[one], &mut answers),
         Err(Refusal::StampMissing)
     );
-    assert_eq!((head.pairs, stamps, index, answers), (1, [0], [5, 5], [9]));
+    assert_eq!((head.pairs, stamps, revisions, index, answers), (1, [0], [3], [5, 5], [9]));
 }
 
 /// A board in static memory.
@@ -250,7 +258,7 @@ fn numbers_and_texts() {
         assert_eq!((refusal.number(), Refusal::from_number(number)), (number, Some(*refusal)));
         assert_eq!(Refusal::check(number), Err(*refusal));
     }
-    assert_eq!((Refusal::from_number(0), Refusal::from_number(14)), (None, None));
+    assert_eq!((Refusal::from_number(0), Refusal::from_number(15)), (None, None));
     assert_eq!(Refusal::NotLater.to_string(), "10: message not later than the pair's last");
 }
 
@@ -267,6 +275,7 @@ fn the_header_agrees() {
     }
     assert!(header.contains(&format!("BOARD_OPERATORS_MOST {OPERATORS_MOST}\n")));
     assert!(header.contains(&format!("BOARD_RIDES_MOST {RIDES_MOST}\n")));
+    assert!(header.contains(&format!("BOARD_REVISION_MOST {REVISION_MOST}\n")));
     assert_eq!((size_of::<Head>(), size_of::<Message>()), (6, 12));
-    assert_eq!(core::mem::offset_of!(Message, stamp), 8);
+    assert_eq!((core::mem::offset_of!(Message, revision), core::mem::offset_of!(Message, stamp)), (6, 8));
 }

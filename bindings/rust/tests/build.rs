@@ -6,9 +6,9 @@ use board::*;
 use lent::Lent;
 
 /// The lengths that a board needs, of a size that is allowed or not.
-fn needed(operators: u16, rides: u16) -> [usize; 4] {
+fn needed(operators: u16, rides: u16) -> [usize; 5] {
     let places = pair_places(operators, rides);
-    [places, places, places, index_places(operators, rides)]
+    [places, places, places, places, index_places(operators, rides)]
 }
 
 /// The exported build, over pair arrays in which the pairs stand, as many as there is room for.
@@ -17,11 +17,12 @@ fn exported(lent: &mut Lent, operators: u16, rides: u16, pairs: &[(u16, u16)], s
         (*operator, *ride) = *pair;
     }
     let head = Head { operators, rides, pairs: u16::try_from(pairs.len()).unwrap_or(u16::MAX) };
-    build(head, &mut lent.operators, &mut lent.rides, start, &mut lent.stamps, &mut lent.index)
+    let Parts { operators, rides, stamps, revisions, index } = lent.parts();
+    build(head, operators, rides, start, stamps, revisions, index)
 }
 
 /// Both builds from the same words: one answer, and the same words where it is `Ok`. Its number.
-fn compare(lengths: [usize; 4], operators: u16, rides: u16, pairs: &[(u16, u16)], start: u32) -> usize {
+fn compare(lengths: [usize; 5], operators: u16, rides: u16, pairs: &[(u16, u16)], start: u32) -> usize {
     let mut lent = Lent::new(lengths);
     let (before, mut other) = (lent.clone(), lent.clone());
     let answer = Board::build(lent.parts(), operators, rides, pairs, start).map(|_| ());
@@ -32,7 +33,7 @@ fn compare(lengths: [usize; 4], operators: u16, rides: u16, pairs: &[(u16, u16)]
 }
 
 /// How often each number was answered, all that a build has among them.
-fn check_counts(counts: [usize; 14]) {
+fn check_counts(counts: [usize; 15]) {
     for (number, count) in counts.into_iter().enumerate() {
         assert_eq!(count != 0, matches!(number, 0..=5 | 9), "{number}: {counts:?}");
     }
@@ -42,7 +43,7 @@ fn check_counts(counts: [usize; 14]) {
 /// part too short in turn.
 #[test]
 fn numbers_of_every_small_table() {
-    let mut counts = [0; 14];
+    let mut counts = [0; 15];
     let small = (0..3).flat_map(|operators| (0..3).map(move |rides| (operators, rides)));
     for (operators, rides) in small.chain([(201, 1), (1, 61), (201, 61), (u16::MAX, u16::MAX)]) {
         let lengths = needed(operators.min(2), rides.min(2));
@@ -51,9 +52,9 @@ fn numbers_of_every_small_table() {
         for count in 0..4 {
             for list in 0..of.len().pow(count) {
                 let pairs: Vec<_> = (0..count).map(|place| of[list / of.len().pow(place) % of.len()]).collect();
-                for short in 0..5 {
+                for short in 0..=lengths.len() {
                     let mut lengths = lengths;
-                    if short < 4 {
+                    if short < lengths.len() {
                         lengths[short] = lengths[short].saturating_sub(1);
                     }
                     for start in [0, 1] {
@@ -85,7 +86,7 @@ impl Numbers {
 /// Larger tables at random, whole or with one or more damages.
 #[test]
 fn numbers_of_damaged_tables() {
-    let mut counts = [0; 14];
+    let mut counts = [0; 15];
     let mut numbers = Numbers(20_260_101);
     for _ in 0..4000 {
         let (operators, rides) = match numbers.below(40) {
@@ -113,7 +114,7 @@ fn numbers_of_damaged_tables() {
             pairs.resize(most, (0, 0));
         }
         if numbers.one_in(8) {
-            let part = numbers.below(4);
+            let part = numbers.below(lengths.len());
             lengths[part] = numbers.below(lengths[part] + 1);
         }
         let start = if numbers.one_in(8) { 0 } else { u32::MAX };
@@ -126,9 +127,9 @@ fn numbers_of_damaged_tables() {
 #[test]
 fn the_board_before_stands() {
     let pairs = [(0, 0), (0, 1), (1, 0), (1, 1), (2, 1), (2, 2), (3, 2)];
-    let mut lent = Lent::new([14, 14, 14, 23]);
+    let mut lent = Lent::new(needed(4, 3).map(|length| length + 2));
     let mut board = Board::build(lent.parts(), 4, 3, &pairs, 1).unwrap();
-    board.message(Message::grant(3, 1, 2)).unwrap();
+    board.message(Message::grant(3, 1, 2).with_revision(4)).unwrap();
     let (head, cover) = (board.head(), board.cover(2, 2).unwrap());
     let before = lent.clone();
 
@@ -153,4 +154,18 @@ fn the_board_before_stands() {
     assert_eq!(refused(whole, 2, 2, &[(1, 0), (1, 0)], 1), Refusal::PairMisplaced);
     assert_eq!(refused(whole, 2, 2, &[(1, 0), (0, 1)], 1), Refusal::PairMisplaced);
     assert_eq!(refused(whole, 2, 2, &[(1, 0), (1, 1)], 0), Refusal::StampZero);
+}
+
+/// A build sets the revision of every pair to 0, listed or not, whatever stood there, and no place behind them.
+#[test]
+fn revisions_of_a_build() {
+    let mut lent = Lent::new(needed(4, 3).map(|length| length + 2));
+    for turn in 0..2 {
+        let mut board = Board::build(lent.parts(), 4, 3, &[(0, 0), (3, 2)], 5).unwrap();
+        assert_eq!(board.words().revisions, [0; 12], "turn {turn}");
+        board.message(Message::withdrawal(0, 0, 5).with_revision(255)).unwrap();
+        board.message(Message::grant(2, 1, 1).with_revision(7)).unwrap();
+        assert_eq!(board.words().revisions, [255, 0, 0, 0, 0, 0, 0, 7, 0, 0, 0, 0], "turn {turn}");
+        assert_eq!(lent.revisions[12..], [777; 2], "turn {turn}");
+    }
 }

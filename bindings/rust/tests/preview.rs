@@ -6,42 +6,44 @@ use board::*;
 use lent::Lent;
 
 const PAIRS: [(u16, u16); 7] = [(0, 0), (0, 1), (1, 0), (1, 1), (2, 1), (2, 2), (3, 2)];
-const LENGTHS: [usize; 4] = [12, 12, 12, 21];
+const LENGTHS: [usize; 5] = [12, 12, 12, 12, 21];
 
 /// Parts longer than document 01's board needs, with no board in them.
 fn longer() -> Lent {
     Lent::new(LENGTHS.map(|length| length + 2))
 }
 
-/// Document 01's board built at stamp 5, after a withdrawal at stamp 7, in longer parts; and its head. Past the needed
-/// lengths the parts hold another word than those without a board.
+/// Document 01's board built at stamp 5, after a withdrawal at stamp 7 with revision 2, in longer parts; and its head. Past
+/// the needed lengths the parts hold another word than those without a board.
 fn stored() -> (Lent, Head) {
     let mut lent = longer();
     let mut board = Board::build(lent.parts(), 4, 3, &PAIRS, 5).unwrap();
-    board.message(Message::withdrawal(3, 2, 7)).unwrap();
+    board.message(Message::withdrawal(3, 2, 7).with_revision(2)).unwrap();
     let head = board.head();
-    let [operators, rides, stamps, index] = LENGTHS;
+    let [operators, rides, stamps, revisions, index] = LENGTHS;
     lent.operators[operators..].fill(555);
     lent.rides[rides..].fill(555);
     lent.stamps[stamps..].fill(555);
+    lent.revisions[revisions..].fill(555);
     lent.index[index..].fill(555);
     (lent, head)
 }
 
-/// Every message of a kind, a pair and a stamp in range or just past it.
+/// Every message of a kind, a pair, a stamp and a revision in range or just past it.
 fn messages_of_all_sorts() -> Vec<Message> {
     let pairs = || (0..5).flat_map(|operator| (0..4).map(move |ride| (operator, ride)));
-    let of = |kind| {
-        pairs()
-            .flat_map(move |(operator, ride)| [0, 4, 5, 6, 7, 8].map(|stamp| Message { kind, operator, ride, stamp }))
-    };
+    let sent =
+        || [0, 4, 5, 6, 7, 8].into_iter().flat_map(|stamp| [0, 1, 2, 3, 255, 256].map(|revision| (stamp, revision)));
+    let message = |kind, (operator, ride), (stamp, revision)| Message { kind, operator, ride, revision, stamp };
+    let of = |kind| pairs().flat_map(move |pair| sent().map(move |sent| message(kind, pair, sent)));
     (0..4).flat_map(of).collect()
 }
 
 /// Whether the places past the needed lengths are as they came.
 fn tails_stand(lent: &Lent) -> bool {
-    let [operators, rides, stamps, index] = LENGTHS;
-    let words = [&lent.operators[operators..], &lent.rides[rides..], &lent.index[index..]];
+    let [operators, rides, stamps, revisions, index] = LENGTHS;
+    let words =
+        [&lent.operators[operators..], &lent.rides[rides..], &lent.revisions[revisions..], &lent.index[index..]];
     words.iter().all(|tail| *tail == [777; 2]) && lent.stamps[stamps..] == [777; 2]
 }
 
@@ -50,7 +52,7 @@ fn tails_stand(lent: &Lent) -> bool {
 #[test]
 fn as_on_a_copy() {
     let (lent, head) = stored();
-    let mut counts = [0; 14];
+    let mut counts = [0; 15];
     for one in messages_of_all_sorts() {
         let (mut memory, mut copy, mut spare) = (lent.clone(), lent.clone(), longer());
         let mut copied = Board::attach(copy.parts(), head).unwrap();
@@ -75,7 +77,7 @@ fn as_on_a_copy() {
         }
     }
     for (number, count) in counts.into_iter().enumerate() {
-        assert_eq!(count != 0, matches!(number, 0 | 7..=10), "{number}: {counts:?}");
+        assert_eq!(count != 0, matches!(number, 0 | 7..=10 | 14), "{number}: {counts:?}");
     }
 }
 
@@ -84,8 +86,10 @@ fn as_on_a_copy() {
 fn a_board_of_its_own() {
     let (mut memory, mut spare, mut further) = (Memory::new(), Memory::new(), Memory::new());
     let board = Board::build(memory.parts(), 4, 3, &PAIRS, 1).unwrap();
-    let (differ, mut granted) = board.preview(Message::grant(3, 1, 2), spare.parts()).unwrap();
-    assert_eq!((differ, granted.head().pairs, granted.stamp(3, 1)), (8, 8, Some(2)));
+    let one = Message::grant(3, 1, 2).with_revision(6);
+    let (differ, mut granted) = board.preview(one, spare.parts()).unwrap();
+    assert_eq!((differ, granted.head().pairs), (8, 8));
+    assert_eq!((granted.stamp(3, 1), granted.revision(3, 1)), (Some(2), Some(6)));
     assert_eq!(granted.row(1), Some(&[4, 4, 4, 4, 2, 4, 2][..]));
     assert_eq!(granted.row(2), Some(&[2; 7][..]));
     assert!(granted.cover(2, 2).unwrap().rides().eq([0, 1, 2]));
@@ -98,8 +102,9 @@ fn a_board_of_its_own() {
 
     assert_eq!(granted.message(Message::withdrawal(3, 1, 3)), Ok(8));
     assert!(granted.pairs().eq(PAIRS));
-    assert_eq!(granted.words().3, board.words().3);
+    assert_eq!(granted.words().index, board.words().index);
     assert_eq!((board.stamp(3, 1), granted.stamp(3, 1)), (Some(0), Some(3)));
+    assert_eq!((board.revision(3, 1), granted.revision(3, 1)), (Some(0), Some(0)));
     let head = granted.head();
     assert_eq!(Board::attach(spare.parts(), head).unwrap().row(1), board.row(1));
     assert!(Board::build(spare.parts(), 4, 3, &PAIRS, 1).unwrap().words() == board.words());
@@ -112,7 +117,7 @@ fn a_spare_part_too_short() {
     let mut spare = longer();
     let board = Board::attach(memory.parts(), head).unwrap();
     let one = Message::grant(3, 1, 9);
-    for part in 0..4 {
+    for part in 0..LENGTHS.len() {
         let mut lengths = LENGTHS;
         lengths[part] -= 1;
         assert_eq!(board.preview(one, spare.first(lengths)).map(|_| ()), Err(Refusal::PartShort), "part {part}");
@@ -144,12 +149,14 @@ impl Loan {
             &board.operators,
             &board.rides,
             &board.stamps,
+            &board.revisions,
             &board.index,
             one,
             &mut self.spare_head,
             &mut spare.operators,
             &mut spare.rides,
             &mut spare.stamps,
+            &mut spare.revisions,
             &mut spare.index,
         )
     }
@@ -157,8 +164,8 @@ impl Loan {
 
 type Damage = fn(&mut Loan, &mut Message);
 
-/// The damages of 1 to 9, in the order of their numbers; that of 3 shortens a spare part.
-const DAMAGES: [(Refusal, Damage); 9] = [
+/// The damages of 1 to 9 and 14, in the order in which they are checked; that of 3 shortens a spare part.
+const DAMAGES: [(Refusal, Damage); 10] = [
     (Refusal::OperatorsOver, |loan, _| loan.head.operators = 201),
     (Refusal::RidesOver, |loan, _| loan.head.rides = 61),
     (Refusal::PartShort, |loan, _| loan.spare.stamps.truncate(11)),
@@ -168,11 +175,12 @@ const DAMAGES: [(Refusal, Damage); 9] = [
     (Refusal::KindUnknown, |_, one| one.kind = 3),
     (Refusal::OutOfRange, |_, one| one.operator = 4),
     (Refusal::StampZero, |_, one| one.stamp = 0),
+    (Refusal::RevisionOver, |_, one| one.revision = 256),
 ];
 
-/// Of two damages the lower number is given, and every lent word is as it was, the spare head too.
+/// Of two damages the one that is checked first gives its number, and every lent word is as it was, the spare head too.
 #[test]
-fn the_lowest_number() {
+fn the_first_number() {
     for (first, (refusal, damage)) in DAMAGES.into_iter().enumerate() {
         for (_, other) in &DAMAGES[first..] {
             let (mut loan, mut one) = (Loan::new(), Message::grant(3, 1, 9));
@@ -184,23 +192,25 @@ fn the_lowest_number() {
         }
     }
     let mut loan = Loan::new();
-    assert_eq!(loan.preview(Message::grant(3, 2, 7)), Err(Refusal::NotLater));
+    assert_eq!(loan.preview(Message::grant(3, 2, 7).with_revision(2)), Err(Refusal::NotLater));
+    assert_eq!(loan.preview(Message::grant(3, 2, 6).with_revision(256)), Err(Refusal::RevisionOver));
     assert_eq!(loan, Loan::new());
-    assert!(loan.preview(Message::grant(3, 2, 8)).is_ok());
+    assert!(loan.preview(Message::grant(3, 2, 7).with_revision(3)).is_ok());
     assert_eq!((loan.head, loan.spare_head), (Head { pairs: 6, ..loan.head }, Head { pairs: 7, ..loan.head }));
 }
 
 /// A part of the board that is too short, each in turn, where the spare parts are long.
 #[test]
 fn a_part_of_the_board_too_short() {
-    for part in 0..4 {
+    for part in 0..LENGTHS.len() {
         let mut loan = Loan::new();
         let mut lengths = LENGTHS;
         lengths[part] -= 1;
-        let [operators, rides, stamps, index] = lengths;
+        let [operators, rides, stamps, revisions, index] = lengths;
         loan.board.operators.truncate(operators);
         loan.board.rides.truncate(rides);
         loan.board.stamps.truncate(stamps);
+        loan.board.revisions.truncate(revisions);
         loan.board.index.truncate(index);
         let before = loan.clone();
         assert_eq!(loan.preview(Message::grant(3, 1, 9)), Err(Refusal::PartShort), "part {part}");
@@ -217,8 +227,9 @@ fn previews_in_turn() {
     let mut board = Board::build(memory.parts(), 200, 60, &pairs, 1).unwrap();
     let mut head = Board::build(now.parts(), 200, 60, &pairs, 1).unwrap().head();
     for turn in 1..40 {
-        let (operator, ride, stamp) = ((turn * 89 % 200) as u16, (turn * 37 % 60) as u16, turn * 2);
-        for one in [Message::withdrawal(operator, ride, stamp), Message::grant(operator, ride, stamp + 1)] {
+        let (operator, ride, stamp) = ((turn * 89 % 200) as u16, (turn * 37 % 60) as u16, turn + 1);
+        let (withdrawal, grant) = (Message::withdrawal(operator, ride, stamp), Message::grant(operator, ride, stamp));
+        for one in [withdrawal.with_revision(3), grant.with_revision(4)] {
             let (differ, after) = Board::attach(now.parts(), head).unwrap().preview(one, next.parts()).unwrap();
             assert_eq!(board.message(one), Ok(differ), "{one:?}");
             assert_eq!((after.head(), after.words()), (board.head(), board.words()), "{one:?}");

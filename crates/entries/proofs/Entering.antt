@@ -14,7 +14,7 @@ use Rattle.model.specs.Count.{rows}
 use Rattle.model.specs.Graph.{Graph}
 use Rattle.model.specs.Layout.{Stamps, lent, pair-places, over, sized}
 use Rattle.model.specs.Refusal.{refused-7, refused-8, refused-9, first-number, message-cases}
-use Rattle.model.specs.Contents.{Slot, Pair, Entry, Contents, slot, entry, given, contents, stamp-place, pair-numbers, padded, words}
+use Rattle.model.specs.Contents.{Slot, Pair, Entry, Contents, slot, entry, given, contents, pair-place, pair-numbers, padded, words}
 use Rattle.model.proofs.Count.{length-rows}
 use Rattle.model.proofs.Chain.{first-none}
 use Rattle.model.proofs.Refusal.{tests-valid}
@@ -31,7 +31,7 @@ module _ (h : Head) (m : Message) (operators rides stamps : List ℕ) (ready : E
   after = next h m operators rides stamps
 
   abbrev place : ℕ
-  place = stamp-place h (m .operator) (m .ride)
+  place = pair-place h (m .operator) (m .ride)
 
   pub place-inside : place < pair-places h
   place-inside = digits-lt (ready .operator) (ready .ride)

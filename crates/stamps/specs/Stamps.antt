@@ -1,8 +1,9 @@
--- Inner contracts: the stamps of listed pairs, word by word.
+-- Inner contracts: the stamps of listed pairs, word by word, and which of two stamps and revisions is newer.
 use mathlib.Core.Path.{_≡_}
 use mathlib.Core.List.{List}
-use mathlib.Core.Bool.{Bool, true, false}
+use mathlib.Core.Bool.{Bool, true, false, _&&_, _||_}
 use Prim.Native.Nat.{ℕ, _+_, _*_, _<_}
+use lib.Dec.{ltb, eqb}
 use lib.ListN.{getD, drop}
 use Rattle.model.specs.Count.{rows}
 use Rattle.model.specs.Graph.{Graph}
@@ -20,3 +21,7 @@ pub record Stamped (is-listed : ℕ → ℕ → Bool) (n m start : ℕ) (old new
 -- the stamps of a build: the starting stamp for listed pairs, 0 for the others
 unfoldable pub start-stamps : Graph → ℕ → List ℕ
 start-stamps g start = rows (g .operators) (g .rides) (λ u v. elim (g .cleared u v) [ true ↦ start | false ↦ 0 ])
+
+-- a stamp and a revision are newer than others: larger stamp; at equal stamps larger revision
+unfoldable pub newer-of : ℕ → ℕ → ℕ → ℕ → Bool
+newer-of stamp revision stamp′ revision′ = ltb stamp′ stamp || (eqb stamp stamp′ && ltb revision′ revision)

@@ -2,13 +2,13 @@
 // pair's last, and the store of a taken message.
 ghost use mathlib.Core.Path.{_≡_};
 ghost use mathlib.Core.List.{List};
-ghost use Prim.Native.Nat.{ℕ, _+_, _*_, _<_, _≤_};
+ghost use Prim.Native.Nat.{ℕ, _*_, _<_, _≤_};
 ghost use lib.ListN.{length, getD, set};
 ghost use Rattle.model.specs.Layout.{lent, pair-places, over, listed, graph};
 ghost use Rattle.model.specs.Contents.{pair-place};
 ghost use Rattle.model.specs.Refusal.{refused-6, refused-10};
 ghost use Rattle.pairs.specs.Accepted.{AcceptedPairs};
-ghost use Rattle.stamps.specs.Stamps.{Stamped, start-stamps};
+ghost use Rattle.stamps.specs.Stamps.{Stamped, start-stamps, newer-of};
 use model::Head;
 use model::Message;
 
@@ -66,11 +66,14 @@ pub fn missing(head: Head, operators: &[u16], rides: &[u16], stamps: &[u32]) -> 
     false
 }
 
-// The rank of a stamp and a revision: the larger the later, by the stamp first.
-fn rank(stamp: u32, revision: u16) -> u64
-    ensures { λ r. ⌜ r ≡ stamp * 65536 + revision ⌝ }
+// Whether a stamp and a revision are newer than others.
+fn newer(stamp: u32, revision: u16, other: u32, other_revision: u16) -> bool
+    ensures { λ r. ⌜ r ≡ newer-of stamp revision other «other_revision» ⌝ }
 {
-    stamp as u64 * 65536 + revision as u64
+    if stamp == other {
+        return other_revision < revision;
+    }
+    other < stamp
 }
 
 // Whether a message in range is not later than its pair's last: at equal stamps and revisions only a withdrawal of a listed pair is.
@@ -92,12 +95,12 @@ pub fn not_later(
         ⌝ }
 {
     let at = place(head, message.operator, message.ride);
-    let last = rank(stamps[at], revisions[at]);
-    let this = rank(message.stamp, message.revision);
-    if last < this {
+    let stamp = stamps[at];
+    let revision = revisions[at];
+    if newer(message.stamp, message.revision, stamp, revision) {
         return false;
     }
-    if this < last {
+    if newer(stamp, revision, message.stamp, message.revision) {
         return true;
     }
     if message.kind == 1 {

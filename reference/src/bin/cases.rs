@@ -2,6 +2,7 @@
 //! `replay_deliveries` and `replay_cover` of the folder named by its first argument. The same seed gives the same files;
 //! a second argument is a seed other than that of the stored files.
 
+use reference::corrections::{Corrections, BESIDE_14, CORRECTIONS, SHORT_REVISIONS, START};
 use reference::frames::{replay_cover, write_end, Call, Framed, Memory, Outcome, Part, Reference};
 use reference::frames::{INDEX_PLACES, PAIR_PLACES};
 use reference::samples::{Pair, BY_NO_INDEX, LIMITS_FROM_0, NO_INDEX, PAIRS, PEELS_FROM_0, SHORT_FROM_0};
@@ -74,9 +75,17 @@ impl Random {
         needed + self.pick(&[0, 0, 1, 2, 5])
     }
 
-    /// For each part of a board a length that is at least the one needed.
+    /// For each part of a board a length that is at least the one needed. That of the revisions comes from a generator of
+    /// its own: what `cover` is given doesn't depend on it.
     fn lengths(&mut self, head: Head) -> Lengths {
-        head.lengths().map(|needed| self.length(needed))
+        let needed = head.lengths();
+        Parts {
+            operators: self.length(needed.operators),
+            rides: self.length(needed.rides),
+            stamps: self.length(needed.stamps),
+            revisions: Random(!self.0).length(needed.revisions),
+            index: self.length(needed.index),
+        }
     }
 
     /// A length that is too short, where there is one.
@@ -217,7 +226,7 @@ impl Stream {
 // Boards, whole and damaged
 
 /// How many damages there are that 1 to 5 speak of.
-const DAMAGES: usize = 6;
+const DAMAGES: usize = 7;
 
 /// A board with what is lent of it, before damage is done to it.
 #[derive(Clone)]
@@ -267,6 +276,7 @@ impl Draft {
             operators: Part::given(lengths.operators.min(PAIR_PLACES), &words.operators, *others),
             rides: Part::given(lengths.rides.min(PAIR_PLACES), &words.rides, *others),
             stamps: Part::given(lengths.stamps.min(PAIR_PLACES), &words.stamps, *others as u32 * 65_537),
+            revisions: Part::given(lengths.revisions.min(PAIR_PLACES), &words.revisions, *others),
             index: Part::given(lengths.index.min(INDEX_PLACES), &words.index, *others),
         }
     }
@@ -348,8 +358,9 @@ impl Draft {
             0 => self.oversize(random),
             1 => self.shorten_pairs(random),
             2 => self.lengths.stamps = random.short(self.head.places()),
-            3 => self.lengths.index = random.short(self.head.words()),
-            4 => self.too_many_pairs(random),
+            3 => self.lengths.revisions = random.short(self.head.places()),
+            4 => self.lengths.index = random.short(self.head.words()),
+            5 => self.too_many_pairs(random),
             _ => self.disorder(random),
         }
     }
@@ -470,6 +481,15 @@ fn peel_case(random: &mut Random) -> Call {
     draft.peel(alpha, beta, steps, Part::given(marks_len, &words, random.word()))
 }
 
+/// A revision. Most are few, so that many are equal; some are near 255, or far above it.
+fn some_revision(random: &mut Random) -> u16 {
+    match random.below(20) {
+        0 => random.pick(&[254, 255, 256, 257]),
+        1 => random.pick(&[300, 65_535]),
+        _ => random.below(4) as u16,
+    }
+}
+
 /// A message for a board of these sizes, mostly a valid one. Stamps are few, so that many are equal.
 fn some_message(random: &mut Random, head: Head, start: u32) -> Message {
     let size = |random: &mut Random, count: u16| {
@@ -487,6 +507,7 @@ fn some_message(random: &mut Random, head: Head, start: u32) -> Message {
         },
         operator: size(random, head.operators),
         ride: size(random, head.rides),
+        revision: some_revision(random),
         stamp: match random.below(20) {
             0 => 0,
             1 => random.pick(&[4_294_967_295, 4_294_967_294, 65_536, 65_535]),
@@ -498,10 +519,10 @@ fn some_message(random: &mut Random, head: Head, start: u32) -> Message {
     }
 }
 
-/// A board that a message may find: stamps of its own, and an index that need not be that of the pairs.
+/// A board that a message may find: stamps and revisions of its own, and an index that need not be that of the pairs.
 fn found_board(random: &mut Random) -> Draft {
     let mut draft = Draft::small(random);
-    let Vectors { mut stamps, mut index, .. } = built(&draft);
+    let Vectors { mut stamps, mut revisions, mut index, .. } = built(&draft);
     match random.below(4) {
         0 => index.iter_mut().for_each(|word| *word = random.word()),
         1 => index.iter_mut().for_each(|word| {
@@ -518,7 +539,8 @@ fn found_board(random: &mut Random) -> Draft {
             random.pick(&[1, 2, 3, 4, 4_294_967_295])
         };
     }
-    (draft.words.stamps, draft.words.index) = (stamps, index);
+    revisions.iter_mut().for_each(|revision| *revision = some_revision(random));
+    (draft.words.stamps, draft.words.revisions, draft.words.index) = (stamps, revisions, index);
     draft
 }
 
@@ -599,10 +621,11 @@ fn whole_parts(random: &mut Random, head: Head) -> Framed {
 /// One of the parts is lent too short.
 fn short_parts(random: &mut Random, head: Head) -> Framed {
     let mut parts = whole_parts(random, head);
-    match random.below(4) {
+    match random.below(5) {
         0 => parts.operators.len = random.short(head.places()),
         1 => parts.rides.len = random.short(head.places()),
         2 => parts.stamps.len = random.short(head.places()),
+        3 => parts.revisions.len = random.short(head.places()),
         _ => parts.index.len = random.short(head.words()),
     }
     parts
@@ -634,6 +657,7 @@ fn board_words(memory: &Memory, head: Head) -> Vectors {
         operators: parts.operators[..lengths.operators].to_vec(),
         rides: parts.rides[..lengths.rides].to_vec(),
         stamps: parts.stamps[..lengths.stamps].to_vec(),
+        revisions: parts.revisions[..lengths.revisions].to_vec(),
         index: parts.index[..lengths.index].to_vec(),
     }
 }
@@ -695,7 +719,7 @@ fn interrupt(random: &mut Random, stream: &mut Stream, head: Head, rest: &[Messa
     stream.call(call);
 }
 
-/// A small board and its messages, with repeats.
+/// A small board and its messages, with corrections within one stamp and repeats.
 fn delivery_case(random: &mut Random, stream: &mut Stream) {
     let operators = 1 + random.below(6) as u16;
     let rides = 1 + random.below(5) as u16;
@@ -705,8 +729,12 @@ fn delivery_case(random: &mut Random, stream: &mut Stream) {
     let start = random.pick(&[1, 2, 4, 5, 5, 5, 4_294_967_295]);
     let count = 4 + random.below(24);
     let mut messages: Vec<Message> = (0..count).map(|_| some_message(random, draft.head, start)).collect();
-    for _ in 0..random.below(12) {
-        messages.push(messages[random.below(count)]);
+    for _ in 0..random.below(8) {
+        let (kind, revision) = (random.pick(&[GRANT, WITHDRAWAL]), some_revision(random));
+        messages.push(Message { kind, revision, ..messages[random.below(count)] });
+    }
+    for _ in 0..random.below(8) {
+        messages.push(messages[random.below(messages.len())]);
     }
     let mut left = BTreeSet::new();
     for between in [random.pick(&[Between::Nothing, Between::Harmless]), Between::Harmless] {
@@ -784,7 +812,7 @@ fn samples_from_0(random: &mut Random, stream: &mut Stream) {
 
 fn sample_deliveries(random: &mut Random, stream: &mut Stream) {
     let draft = sample_draft(random);
-    let message = |kind, operator, ride, stamp| Message { kind, operator, ride, stamp };
+    let message = |kind, operator, ride, stamp| Message { kind, operator, ride, revision: 0, stamp };
     stream.call(draft.build(1));
     deliver(random, stream, draft.head, &[message(GRANT, 3, 1, 2)], 1, Between::Nothing);
     let at_five = [message(GRANT, 0, 0, 5), message(WITHDRAWAL, 0, 0, 5), message(GRANT, 0, 0, 6)];
@@ -795,6 +823,79 @@ fn sample_deliveries(random: &mut Random, stream: &mut Stream) {
     let never_granted = [message(WITHDRAWAL, 3, 0, 9), message(GRANT, 3, 0, 9), message(GRANT, 3, 0, 8)];
     stream.call(draft.build(5));
     deliver(random, stream, draft.head, &never_granted, 2, Between::Nothing);
+}
+
+/// A board that stays, but for the stamp and the revision of a pair.
+fn stored_parts(random: &mut Random, head: Head, corrections: &Corrections) -> Framed {
+    let mut parts = whole_parts(random, head);
+    let (place, (_, revision, stamp)) = (corrections.place(), corrections.stored);
+    parts.stamps = Part::changed(parts.stamps.len, place, &[stamp]);
+    parts.revisions = Part::changed(parts.revisions.len, place, &[revision]);
+    parts
+}
+
+/// Lengths of which that of the revisions is given.
+fn lengths_with(random: &mut Random, head: Head, revisions: usize) -> Lengths {
+    Lengths { revisions, ..random.lengths(head) }
+}
+
+/// Sends messages one after another, the first with these parts and the others with the board that it left. Gives their
+/// numbers.
+fn sent(random: &mut Random, stream: &mut Stream, head: Head, parts: Framed, messages: &[Message]) -> Vec<u16> {
+    let mut lent = (head, parts);
+    let mut numbers = Vec::new();
+    for message in messages {
+        let (outcome, head) = stream.call(Call::Message { head: lent.0, message: *message, parts: lent.1 });
+        numbers.push(outcome.numbers[0]);
+        lent = (head, whole_parts(random, head));
+    }
+    numbers
+}
+
+/// Sends messages by one list. Gives their numbers, or for each of them the number that refuses the list.
+fn listed(random: &mut Random, stream: &mut Stream, head: Head, parts: Framed, messages: &[Message]) -> Vec<u16> {
+    let count = messages.len();
+    let answers = Part::filled(random.length(count), random.word());
+    let (outcome, _) = stream.call(Call::Messages { head, messages: messages.to_vec(), parts, answers });
+    match outcome.numbers[0] {
+        0 => stream.memory.answers[..count].to_vec(),
+        code => vec![code; count],
+    }
+}
+
+/// Document 02's corrections within one stamp, with what was worked out by hand.
+fn sample_corrections(random: &mut Random, stream: &mut Stream) {
+    let draft = sample_draft(random);
+    for send in [sent, listed] {
+        for corrections in CORRECTIONS {
+            stream.call(draft.build(START));
+            let parts = stored_parts(random, draft.head, corrections);
+            let numbers = send(random, stream, draft.head, parts, &corrections.messages());
+            let (place, parts) = (corrections.place(), &stream.memory.parts);
+            let (_, revision, stamp) = corrections.left;
+            assert_eq!(numbers, corrections.numbers());
+            assert_eq!((parts.revisions[place], parts.stamps[place]), (revision, stamp));
+        }
+        for &(message, number) in BESIDE_14 {
+            stream.call(draft.build(START));
+            let parts = whole_parts(random, draft.head);
+            assert_eq!(send(random, stream, draft.head, parts, &[message]), [number]);
+        }
+        for &(head, places, number) in SHORT_REVISIONS {
+            stream.call(draft.build(START));
+            let parts = Framed::kept(lengths_with(random, head, places));
+            let message = Message { kind: WITHDRAWAL, operator: 1, ride: 0, revision: 0, stamp: 9 };
+            assert_eq!(send(random, stream, head, parts, &[message]), [number]);
+        }
+    }
+}
+
+/// Builds that are lent so many revisions, with what was worked out by hand.
+fn sample_revisions(random: &mut Random, stream: &mut Stream) {
+    for &(head, places, number) in SHORT_REVISIONS {
+        let draft = Draft { head, lengths: lengths_with(random, head, places), ..sample_draft(random) };
+        assert_eq!(stream.call(draft.build(START)).0.numbers, [number]);
+    }
 }
 
 // Large boards
@@ -847,7 +948,7 @@ fn large_calls(random: &mut Random, stream: &mut Stream) {
 /// Pair arrays of the largest size that are wrong at one place only, and parts that are short by one place.
 fn large_refusals(random: &mut Random, stream: &mut Stream) {
     let pairs = random.table_of(200, 60, 900);
-    for damage in 0..8 {
+    for damage in 0..9 {
         let mut draft = Draft::new(random, 200, 60, &pairs);
         match damage {
             0 => draft.words.operators[899] = 200,
@@ -855,8 +956,9 @@ fn large_refusals(random: &mut Random, stream: &mut Stream) {
             2 => draft.lengths.operators = 11_999,
             3 => draft.lengths.rides = 11_999,
             4 => draft.lengths.stamps = 11_999,
-            5 => draft.lengths.index = 15_599,
-            6 => draft.head.pairs = 12_001,
+            5 => draft.lengths.revisions = 11_999,
+            6 => draft.lengths.index = 15_599,
+            7 => draft.head.pairs = 12_001,
             _ => {
                 draft.words.operators[899] = draft.words.operators[898];
                 draft.words.rides[899] = draft.words.rides[898];
@@ -875,7 +977,8 @@ fn large_deliveries(random: &mut Random, stream: &mut Stream) {
         let mut messages: Vec<Message> = (0..8).map(|_| some_message(random, draft.head, 5)).collect();
         for _ in 0..3 {
             let (operator, ride) = if pairs.is_empty() { (199, 59) } else { random.pick(&pairs) };
-            messages.push(Message { kind: WITHDRAWAL, operator, ride, stamp: 5 + random.below(3) as u32 });
+            let (revision, stamp) = (some_revision(random), 5 + random.below(3) as u32);
+            messages.push(Message { kind: WITHDRAWAL, operator, ride, revision, stamp });
         }
         messages.push(messages[random.below(8)]);
         random.shuffle(&mut messages);
@@ -952,6 +1055,7 @@ fn calls(random: &mut Random) -> Stream {
     let mut stream = Stream::new();
     sample_calls(random, &mut stream);
     samples_from_0(random, &mut stream);
+    sample_revisions(random, &mut stream);
     for _ in 0..2_600 {
         let case = build_case(random);
         stream.call(case);
@@ -975,6 +1079,7 @@ fn calls(random: &mut Random) -> Stream {
 fn deliveries(random: &mut Random) -> Stream {
     let mut stream = Stream::new();
     sample_deliveries(random, &mut stream);
+    sample_corrections(random, &mut stream);
     for _ in 0..1_500 {
         let case = message_case(random);
         stream.call(case);
@@ -990,9 +1095,9 @@ fn deliveries(random: &mut Random) -> Stream {
     tally.covers("build", &[0], 30);
     tally.covers("query", &[0], 30);
     tally.covers("peel", &[0], 30);
-    tally.covers("message", &[0, 1, 2, 3, 4, 5, 6, 7, 8, 9, 10], 30);
+    tally.covers("message", &[0, 1, 2, 3, 4, 5, 6, 7, 8, 9, 10, 14], 30);
     tally.covers("message list", &[0, 1, 2, 3, 4, 5, 6], 30);
-    tally.covers("message of a list", &[0, 7, 8, 9, 10], 30);
+    tally.covers("message of a list", &[0, 7, 8, 9, 10, 14], 30);
     stream
 }
 

@@ -6,7 +6,7 @@ use native.Mathlib.Omega.{arith}
 use borrow.Author.Count.{below-more}
 use lib.ListN.{getD}
 use Rattle.model.specs.Layout.{lent}
-use Rattle.model.specs.Contents.{stamp-place}
+use Rattle.model.specs.Contents.{pair-place}
 use Rattle.pairs.proofs.Order.{accepted-range}
 use Rattle.tables.proofs.Place.{place-lt}
 use Rattle.stamps.proofs.Tests.{one-unstamped, all-stamped}
@@ -15,7 +15,7 @@ use Rattle.stamps.proofs.missing.Tie as tie
 
 abbrev Inv-loop : tie.InvT-loop
 Inv-loop head operators rides stamps pairs i₀ i =
-    (i ≤ pairs) × ((k : ℕ) → k < i → getD stamps (stamp-place head (getD operators k 0) (getD rides k 0)) 0 ≢ 0)
+    (i ≤ pairs) × ((k : ℕ) → k < i → getD stamps (pair-place head (getD operators k 0) (getD rides k 0)) 0 ≢ 0)
 
 abbrev μ-loop : tie.MeasureT-loop
 μ-loop head operators rides stamps pairs i₀ i =
@@ -57,7 +57,7 @@ shared-slice-read-if1 c = let s = c .before .before .before .before .before .bef
 returns : tie.Need-returns Inv-loop μ-loop
 returns c = let a = c .before .before .before .before .before .before .before .before .before .before .before .args in
     let l = c .before .before .before .before .before .before .loop in
-    λ index. one-unstamped (lent (a .head) (a .operators .now) (a .rides .now) (a .stamps .now) index) (l .i) (omega arith) (rw (c .before .before .place .ensures) at (c .if1 .taken))
+    λ revisions index. one-unstamped (lent (a .head) (a .operators .now) (a .rides .now) (a .stamps .now) revisions index) (l .i) (omega arith) (rw (c .before .before .place .ensures) at (c .if1 .taken))
 
 add-i : tie.Need-add-i Inv-loop μ-loop
 add-i c = search needs
@@ -71,7 +71,7 @@ loop-again c = let l = c .before .before .before .before .before .before .loop i
 
 returns-2 : tie.Need-returns-2 Inv-loop μ-loop
 returns-2 c = let a = c .before .before .before .before .before .before .args in
-    λ index. all-stamped (lent (a .head) (a .operators .now) (a .rides .now) (a .stamps .now) index) (λ i h. c .before .loop .inv .1 i (omega arith))
+    λ revisions index. all-stamped (lent (a .head) (a .operators .now) (a .rides .now) (a .stamps .now) revisions index) (λ i h. c .before .loop .inv .1 i (omega arith))
 
 pub missing-spec : {M : Type 1} → statement M
 missing-spec =
