@@ -1,11 +1,14 @@
 //! (a) Document 003's Algorithm 1, plainly, with adjacency lists. A message changes the lists and computes every core
 //! number anew.
 
+use board::{Message, GRANT};
+
 /// A board over adjacency lists: u of U are the operators, v of V the rides.
 pub struct Lists {
     rides_of: Vec<Vec<u16>>,
     operators_of: Vec<Vec<u16>>,
     stamps: Vec<u32>,
+    revisions: Vec<u16>,
     pub index: Vec<u16>,
 }
 
@@ -23,6 +26,7 @@ impl Lists {
             rides_of: vec![Vec::new(); operators as usize],
             operators_of: vec![Vec::new(); rides as usize],
             stamps: vec![0; operators as usize * rides as usize],
+            revisions: vec![0; operators as usize * rides as usize],
             index: vec![0; rides as usize * (operators as usize + rides as usize)],
         };
         for &(operator, ride) in pairs {
@@ -34,15 +38,22 @@ impl Lists {
         lists
     }
 
-    /// A grant or a withdrawal later than the pair's last; the number of index words that differ.
-    pub fn message(&mut self, grant: bool, operator: u16, ride: u16, stamp: u32) -> u16 {
-        let place = operator as usize * self.operators_of.len() + ride as usize;
-        self.stamps[place] = stamp;
-        let (rides, operators) = (&mut self.rides_of[operator as usize], &mut self.operators_of[ride as usize]);
-        match (grant, rides.binary_search(&ride), operators.binary_search(&operator)) {
+    /// A grant or a withdrawal in range; the number of index words that differ, or none where it is not later than the
+    /// pair's last.
+    pub fn message(&mut self, one: Message) -> Option<u16> {
+        let place = one.operator as usize * self.operators_of.len() + one.ride as usize;
+        let rides = &mut self.rides_of[one.operator as usize];
+        let operators = &mut self.operators_of[one.ride as usize];
+        let (here, there) = (rides.binary_search(&one.ride), operators.binary_search(&one.operator));
+        let grant = one.kind == GRANT;
+        if (one.stamp, one.revision, !grant) <= (self.stamps[place], self.revisions[place], here.is_err()) {
+            return None;
+        }
+        (self.stamps[place], self.revisions[place]) = (one.stamp, one.revision);
+        match (grant, here, there) {
             (true, Err(here), Err(there)) => {
-                rides.insert(here, ride);
-                operators.insert(there, operator);
+                rides.insert(here, one.ride);
+                operators.insert(there, one.operator);
             }
             (false, Ok(here), Ok(there)) => {
                 rides.remove(here);
@@ -50,7 +61,7 @@ impl Lists {
             }
             _ => {}
         }
-        self.compute_core()
+        Some(self.compute_core())
     }
 
     /// Algorithm 1; the number of index words that differ before and after.

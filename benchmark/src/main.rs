@@ -29,7 +29,8 @@ impl Numbers {
     }
 }
 
-/// One size of board: its pairs at random, and messages that withdraw a listed pair and grant an unlisted one in turn.
+/// One size of board: its pairs at random, and messages that withdraw a listed pair and grant an unlisted one in turn. Four
+/// messages share a stamp, with revisions from 0 to 3.
 struct Case {
     operators: u16,
     rides: u16,
@@ -47,14 +48,14 @@ impl Case {
         }
         let mut pairs = listed.clone();
         pairs.sort();
-        let sent = |place: usize| START + 1 + place as u32;
+        let stamp = |place: usize| START + 1 + place as u32 / 4;
         let messages = (0..messages)
             .map(|place| {
                 let (from, to) = if place % 2 == 0 { (&mut listed, &mut others) } else { (&mut others, &mut listed) };
                 let pair = from.swap_remove(numbers.below(from.len()));
                 to.push(pair);
                 let make = if place % 2 == 0 { Message::withdrawal } else { Message::grant };
-                make(pair.0, pair.1, sent(place))
+                make(pair.0, pair.1, stamp(place)).with_revision(place as u16 % 4)
             })
             .collect();
         Case { operators, rides, pairs, messages }
@@ -120,7 +121,7 @@ impl Line {
 fn queries(case: &Case, board: &Board, alpha: u16, beta: u16) -> ([Vec<f64>; 3], Vec<u16>) {
     let marks = RefCell::new(vec![0; case.nodes()]);
     let ask = || board.query(black_box(alpha), black_box(beta), &mut marks.borrow_mut()).unwrap();
-    let levels = board.words().3;
+    let levels = board.words().index;
     let look = || {
         let (n, m) = (case.operators as usize, case.rides as usize);
         tables::query(n, m, black_box(levels), black_box(alpha), black_box(beta), &mut marks.borrow_mut())
@@ -170,18 +171,22 @@ fn run(case: &Case) -> Vec<Line> {
     let mut tables = Tables::new(n, m, &case.pairs);
     let places = n as usize * m as usize;
     let (mut operators, mut rides) = (tables.operator_numbers.clone(), tables.ride_numbers.clone());
-    let (mut stamps, mut index) = (vec![0; places], vec![0; tables.index.len()]);
+    let (mut stamps, mut revisions, mut index) = (vec![0; places], vec![0; places], vec![0; tables.index.len()]);
     let head = board::Head { operators: n, rides: m, pairs: case.pairs.len() as u16 };
     let mut lists = Lists::build(n, m, &case.pairs, START);
     let times = measure(
         10,
         &mut [
-            &mut || board::build(head, &mut operators, &mut rides, START, &mut stamps, &mut index).unwrap(),
+            &mut || {
+                let (operators, rides) = (&mut operators, &mut rides);
+                board::build(head, operators, rides, START, &mut stamps, &mut revisions, &mut index).unwrap()
+            },
             &mut || lists = Lists::build(n, m, black_box(&case.pairs), START),
             &mut || assert!(black_box(&mut tables).build(START)),
         ],
     );
-    assert!(index == lists.index && index == tables.index && stamps == tables.stamps);
+    assert!(index == lists.index && index == tables.index);
+    assert!(stamps == tables.stamps && revisions == tables.revisions);
     lines.push(line("build", times));
 
     // Query, after the build.
@@ -228,22 +233,12 @@ fn run(case: &Case) -> Vec<Line> {
         case.messages.len() / (ROUNDS + 2),
         &mut [
             &mut || *first += board.message(turn.borrow_mut()(0)).unwrap() as u64,
-            &mut || {
-                let one = turn.borrow_mut()(1);
-                *second += lists.message(one.kind == board::GRANT, one.operator, one.ride, one.stamp) as u64;
-            },
-            &mut || {
-                let one = turn.borrow_mut()(2);
-                let grant = one.kind == board::GRANT;
-                *third += tables.message(grant, one.operator, one.ride, one.stamp).unwrap() as u64;
-            },
+            &mut || *second += lists.message(turn.borrow_mut()(1)).unwrap() as u64,
+            &mut || *third += tables.message(turn.borrow_mut()(2)).unwrap() as u64,
         ],
     );
-    assert!(board.words().3 == lists.index && differ[0] == differ[1] && differ[0] == differ[2]);
-    assert!(
-        board.words()
-            == (&tables.operator_numbers[..], &tables.ride_numbers[..], &tables.stamps[..], &tables.index[..])
-    );
+    assert!(board.words().index == lists.index && differ[0] == differ[1] && differ[0] == differ[2]);
+    assert!(board.words() == tables.words());
     lines.push(line("message", times));
     lines
 }
@@ -267,10 +262,10 @@ fn bursts() -> [Vec<f64>; 2] {
         times[0].push(begin.elapsed().as_secs_f64() * 1e3);
         let begin = Instant::now();
         for one in list {
-            black_box(lists.message(one.kind == board::GRANT, one.operator, one.ride, one.stamp));
+            black_box(lists.message(*one).unwrap());
         }
         times[1].push(begin.elapsed().as_secs_f64() * 1e3);
-        assert!(board.words().3 == lists.index);
+        assert!(board.words().index == lists.index);
     }
     times
 }

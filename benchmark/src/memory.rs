@@ -15,7 +15,8 @@ fn deepest() -> [usize; 6] {
             (parts.operators[place], parts.rides[place]) = *pair;
         }
         let built = stack::deepest(|| {
-            assert!(board::build(head, parts.operators, parts.rides, START, parts.stamps, parts.index).is_ok())
+            let (stamps, revisions) = (&mut *parts.stamps, &mut *parts.revisions);
+            assert!(board::build(head, parts.operators, parts.rides, START, stamps, revisions, parts.index).is_ok())
         });
         let mut board = Board::build(memory.parts(), 200, 60, &case.pairs, START).unwrap();
         let (alpha, beta) = limits(&case, &board);
@@ -64,62 +65,67 @@ fn lent() -> [(String, &'static str); 6] {
     let case = Case::new(200, 60, 6000, 12);
     let mut head = Head { operators: 200, rides: 60, pairs: 6000 };
     let (mut operators, mut rides, mut index) = (vec![0; MOST], vec![0; MOST], vec![0; MOST]);
-    let (mut stamps, mut marks, mut answers) = (vec![0; MOST], vec![0; MOST], vec![0; MOST]);
+    let (mut stamps, mut revisions) = (vec![0; MOST], vec![0; MOST]);
+    let (mut marks, mut answers) = (vec![0; MOST], vec![0; MOST]);
     let (mut spare_head, mut spare_operators, mut spare_rides) = (Head::default(), vec![0; MOST], vec![0; MOST]);
-    let (mut spare_stamps, mut spare_index) = (vec![0; MOST], vec![0; MOST]);
+    let (mut spare_stamps, mut spare_revisions, mut spare_index) = (vec![0; MOST], vec![0; MOST], vec![0; MOST]);
     for (place, pair) in case.pairs.iter().enumerate() {
         (operators[place], rides[place]) = *pair;
     }
-    let build = fewest(|[o, r, s, i]| {
-        board::build(head, &mut operators[..o], &mut rides[..r], START, &mut stamps[..s], &mut index[..i])
+    let build = fewest(|[o, r, s, v, i]| {
+        let (stamps, revisions) = (&mut stamps[..s], &mut revisions[..v]);
+        board::build(head, &mut operators[..o], &mut rides[..r], START, stamps, revisions, &mut index[..i])
     });
     let query = fewest(|[i, k]| board::query(head, &index[..i], 1, 1, &mut marks[..k]).map(|_| ()));
     let peel =
         fewest(|[o, r, k]| board::peel(head, &operators[..o], &rides[..r], &mut marks[..k], 1, 1, 0).map(|_| ()));
-    let message = fewest(|[o, r, s, i]| {
-        let (operators, rides) = (&mut operators[..o], &mut rides[..r]);
-        board::message(&mut head, operators, rides, &mut stamps[..s], &mut index[..i], case.messages[0]).map(|_| ())
+    let message = fewest(|[o, r, s, v, i]| {
+        let (operators, rides, stamps) = (&mut operators[..o], &mut rides[..r], &mut stamps[..s]);
+        let (revisions, index) = (&mut revisions[..v], &mut index[..i]);
+        board::message(&mut head, operators, rides, stamps, revisions, index, case.messages[0]).map(|_| ())
     });
-    let list = fewest(|[o, r, s, i, a]| {
-        let (operators, rides, answers) = (&mut operators[..o], &mut rides[..r], &mut answers[..a]);
-        board::messages(&mut head, operators, rides, &mut stamps[..s], &mut index[..i], &case.messages, answers)
-            .map(|_| ())
+    let list = fewest(|[o, r, s, v, i, a]| {
+        let (operators, rides, stamps) = (&mut operators[..o], &mut rides[..r], &mut stamps[..s]);
+        let (revisions, index, answers) = (&mut revisions[..v], &mut index[..i], &mut answers[..a]);
+        board::messages(&mut head, operators, rides, stamps, revisions, index, &case.messages, answers).map(|_| ())
     });
-    let preview = fewest(|[o, r, s, i, spare_o, spare_r, spare_s, spare_i]| {
+    let preview = fewest(|[o, r, s, v, i, spare_o, spare_r, spare_s, spare_v, spare_i]| {
         board::preview(
             head,
             &operators[..o],
             &rides[..r],
             &stamps[..s],
+            &revisions[..v],
             &index[..i],
             case.messages[0],
             &mut spare_head,
             &mut spare_operators[..spare_o],
             &mut spare_rides[..spare_r],
             &mut spare_stamps[..spare_s],
+            &mut spare_revisions[..spare_v],
             &mut spare_index[..spare_i],
         )
         .map(|_| ())
     });
-    let board_bytes = |[o, r, s, i]: [usize; 4]| 2 * o + 2 * r + 4 * s + 2 * i;
-    let [o, r, s, i, answers] = list;
+    let board_bytes = |[o, r, s, v, i]: [usize; 5]| 2 * o + 2 * r + 4 * s + 2 * v + 2 * i;
+    let [listed @ .., answers] = list;
     assert!(answers == case.messages.len());
-    let [read @ .., spare_o, spare_r, spare_s, spare_i] = preview;
-    let spare = [spare_o, spare_r, spare_s, spare_i];
+    let [read @ .., spare_o, spare_r, spare_s, spare_v, spare_i] = preview;
+    let spare = [spare_o, spare_r, spare_s, spare_v, spare_i];
     let head_bytes = size_of::<Head>();
     let each = size_of::<board::Message>() + size_of::<u16>();
     [
-        (format!("{}", board_bytes(build)), "pair arrays, stamps, index"),
+        (format!("{}", board_bytes(build)), "pair arrays, stamps, revisions, index"),
         (format!("{}", 2 * query[0] + 2 * query[1]), "index, marks"),
         (format!("{}", 2 * peel[0] + 2 * peel[1] + 2 * peel[2]), "pair arrays, marks"),
-        (format!("{}", head_bytes + board_bytes(message)), "head, pair arrays, stamps, index"),
+        (format!("{}", head_bytes + board_bytes(message)), "head, pair arrays, stamps, revisions, index"),
         (
-            format!("{} + {each} for each message", head_bytes + board_bytes([o, r, s, i])),
+            format!("{} + {each} for each message", head_bytes + board_bytes(listed)),
             "as message, the messages and their answers",
         ),
         (
             format!("{}", board_bytes(read) + head_bytes + board_bytes(spare)),
-            "pair arrays, stamps, index; the same again and a head as spare memory",
+            "pair arrays, stamps, revisions, index; the same again and a head as spare memory",
         ),
     ]
 }

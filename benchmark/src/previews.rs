@@ -12,6 +12,7 @@ struct Words {
     operators: Vec<u16>,
     rides: Vec<u16>,
     stamps: Vec<u32>,
+    revisions: Vec<u16>,
     index: Vec<u16>,
 }
 
@@ -19,13 +20,14 @@ impl Words {
     fn new(case: &Case) -> Words {
         let mut memory = Box::new(Memory::new());
         let board = Board::build(memory.parts(), case.operators, case.rides, &case.pairs, START).unwrap();
-        let (operators, rides, stamps, index) = board.words();
+        let words = board.words();
         Words {
             head: board.head(),
-            operators: operators.to_vec(),
-            rides: rides.to_vec(),
-            stamps: stamps.to_vec(),
-            index: index.to_vec(),
+            operators: words.operators.to_vec(),
+            rides: words.rides.to_vec(),
+            stamps: words.stamps.to_vec(),
+            revisions: words.revisions.to_vec(),
+            index: words.index.to_vec(),
         }
     }
 
@@ -35,20 +37,22 @@ impl Words {
             &self.operators,
             &self.rides,
             &self.stamps,
+            &self.revisions,
             &self.index,
             one,
             &mut spare.head,
             &mut spare.operators,
             &mut spare.rides,
             &mut spare.stamps,
+            &mut spare.revisions,
             &mut spare.index,
         )
         .unwrap()
     }
 
     fn message(&mut self, one: Message) -> u16 {
-        let (operators, rides) = (&mut self.operators, &mut self.rides);
-        board::message(&mut self.head, operators, rides, &mut self.stamps, &mut self.index, one).unwrap()
+        let Words { head, operators, rides, stamps, revisions, index } = self;
+        board::message(head, operators, rides, stamps, revisions, index, one).unwrap()
     }
 
     fn copy_from(&mut self, from: &Words) {
@@ -56,6 +60,7 @@ impl Words {
         self.operators.copy_from_slice(&from.operators);
         self.rides.copy_from_slice(&from.rides);
         self.stamps.copy_from_slice(&from.stamps);
+        self.revisions.copy_from_slice(&from.revisions);
         self.index.copy_from_slice(&from.index);
     }
 }

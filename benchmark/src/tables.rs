@@ -1,6 +1,8 @@
 //! (b) The library's own algorithm in Rust: dense tables of bytes, sweeps that subtract whole rows, a limit that rises to
 //! one more than the least degree of a ride.
 
+use board::{Message, Words, GRANT, WITHDRAWAL};
+
 /// A board with the parts that the library keeps.
 pub struct Tables {
     pub operators: u16,
@@ -9,6 +11,7 @@ pub struct Tables {
     pub operator_numbers: Vec<u16>,
     pub ride_numbers: Vec<u16>,
     pub stamps: Vec<u32>,
+    pub revisions: Vec<u16>,
     pub index: Vec<u16>,
 }
 
@@ -148,12 +151,23 @@ impl Tables {
             operator_numbers: vec![0; n * m],
             ride_numbers: vec![0; n * m],
             stamps: vec![0; n * m],
+            revisions: vec![0; n * m],
             index: vec![0; m * (n + m)],
         };
         for (place, pair) in pairs.iter().enumerate() {
             (tables.operator_numbers[place], tables.ride_numbers[place]) = *pair;
         }
         tables
+    }
+
+    pub fn words(&self) -> Words<'_> {
+        Words {
+            operators: &self.operator_numbers,
+            rides: &self.ride_numbers,
+            stamps: &self.stamps,
+            revisions: &self.revisions,
+            index: &self.index,
+        }
     }
 
     fn accepted(&self) -> bool {
@@ -163,12 +177,13 @@ impl Tables {
             && n * m <= self.operator_numbers.len()
             && n * m <= self.ride_numbers.len()
             && n * m <= self.stamps.len()
+            && n * m <= self.revisions.len()
             && m * (n + m) <= self.index.len()
             && self.pairs as usize <= n * m
             && ascending(self.operators, self.rides, self.pairs, &self.operator_numbers, &self.ride_numbers)
     }
 
-    fn stamp_place(&self, operator: u16, ride: u16) -> usize {
+    fn place(&self, operator: u16, ride: u16) -> usize {
         operator as usize * self.rides as usize + ride as usize
     }
 
@@ -188,9 +203,11 @@ impl Tables {
             return false;
         }
         self.clear_tails();
-        self.stamps[..self.operators as usize * self.rides as usize].fill(0);
+        let places = self.operators as usize * self.rides as usize;
+        self.stamps[..places].fill(0);
+        self.revisions[..places].fill(0);
         for i in 0..self.pairs as usize {
-            let place = self.stamp_place(self.operator_numbers[i], self.ride_numbers[i]);
+            let place = self.place(self.operator_numbers[i], self.ride_numbers[i]);
             self.stamps[place] = start;
         }
         self.fill_index();
@@ -198,16 +215,20 @@ impl Tables {
     }
 
     /// The number of index words that differ, or none where the message is refused.
-    pub fn message(&mut self, grant: bool, operator: u16, ride: u16, stamp: u32) -> Option<u16> {
+    pub fn message(&mut self, one: Message) -> Option<u16> {
         if !self.accepted() {
             return None;
         }
         let pairs = self.pairs as usize;
         let listed = self.operator_numbers[..pairs].iter().zip(&self.ride_numbers[..pairs]);
-        if listed.into_iter().any(|(&u, &v)| self.stamps[self.stamp_place(u, v)] == 0) {
+        if listed.into_iter().any(|(&u, &v)| self.stamps[self.place(u, v)] == 0) {
             return None;
         }
-        if self.operators <= operator || self.rides <= ride || stamp == 0 {
+        let (operator, ride, grant) = (one.operator, one.ride, one.kind == GRANT);
+        if !grant && one.kind != WITHDRAWAL || self.operators <= operator || self.rides <= ride {
+            return None;
+        }
+        if one.stamp == 0 || 255 < one.revision {
             return None;
         }
         let before = |i: usize| (self.operator_numbers[i], self.ride_numbers[i]) < (operator, ride);
@@ -221,12 +242,11 @@ impl Tables {
             }
         }
         let is_listed = low < pairs && (self.operator_numbers[low], self.ride_numbers[low]) == (operator, ride);
-        let last = self.stamps[self.stamp_place(operator, ride)];
-        if !(last < stamp || (last == stamp && !grant && is_listed)) {
+        let place = self.place(operator, ride);
+        if (one.stamp, one.revision, !grant) <= (self.stamps[place], self.revisions[place], !is_listed) {
             return None;
         }
-        let place = self.stamp_place(operator, ride);
-        self.stamps[place] = stamp;
+        (self.stamps[place], self.revisions[place]) = (one.stamp, one.revision);
         if grant && !is_listed {
             self.operator_numbers.copy_within(low..pairs, low + 1);
             self.ride_numbers.copy_within(low..pairs, low + 1);

@@ -5,6 +5,7 @@ use differential::guarded::{End, Region};
 use differential::Library;
 use reference::frames::{Board, Reference};
 use reference::{Answer, Counts, Head, Message, Parts, Peeled, Slices, Vectors, Views};
+use std::collections::BTreeMap;
 use std::fmt::Debug;
 use std::ops::Deref;
 
@@ -19,11 +20,12 @@ impl Lent {
     /// The board alone: each part to the places that it needs.
     pub fn board(&self) -> Lent {
         let needed = self.head.lengths();
-        let Parts { operators, rides, stamps, index } = &self.parts;
+        let Parts { operators, rides, stamps, revisions, index } = &self.parts;
         let parts = Parts {
             operators: operators[..needed.operators].to_vec(),
             rides: rides[..needed.rides].to_vec(),
             stamps: stamps[..needed.stamps].to_vec(),
+            revisions: revisions[..needed.revisions].to_vec(),
             index: index[..needed.index].to_vec(),
         };
         Lent { head: self.head, parts }
@@ -36,8 +38,17 @@ pub const INDEX_MOST: usize = 15_700;
 pub const MARKS_MOST: usize = 400;
 pub const LIST_MOST: usize = 400;
 
-/// Document 02: this number is never given.
-pub const NEVER_GIVEN: u16 = 11;
+/// The numbers that each call can give: document 01's, with document 02's 14 and without its 11.
+const BUILD_NUMBERS: &[u16] = &[0, 1, 2, 3, 4, 5, 9];
+const QUERY_NUMBERS: &[u16] = &[0, 1, 2, 3];
+const PEEL_NUMBERS: &[u16] = &[0, 1, 2, 3, 4, 5, 12];
+const MESSAGE_NUMBERS: &[u16] = &[0, 1, 2, 3, 4, 5, 6, 7, 8, 9, 10, 14];
+const LIST_NUMBERS: &[u16] = &[0, 1, 2, 3, 4, 5, 6];
+/// Those of a message of a list that isn't refused.
+const LISTED_NUMBERS: &[u16] = &[0, 7, 8, 9, 10, 14];
+
+/// How often each number was given, by number.
+pub type Given = BTreeMap<u16, u64>;
 
 /// Guarded memory for the parts of a board.
 type PartRegions = Parts<Region<u16>, Region<u32>>;
@@ -47,13 +58,15 @@ fn part_regions() -> PartRegions {
         operators: Region::new(PAIRS_MOST),
         rides: Region::new(PAIRS_MOST),
         stamps: Region::new(PAIRS_MOST),
+        revisions: Region::new(PAIRS_MOST),
         index: Region::new(INDEX_MOST),
     }
 }
 
 fn are_parts_intact(regions: &PartRegions) -> bool {
-    let Parts { operators, rides, stamps, index } = regions;
-    operators.is_intact() && rides.is_intact() && stamps.is_intact() && index.is_intact()
+    let Parts { operators, rides, stamps, revisions, index } = regions;
+    let pairs = operators.is_intact() && rides.is_intact();
+    pairs && stamps.is_intact() && revisions.is_intact() && index.is_intact()
 }
 
 /// Guarded memory for everything that a call is lent.
@@ -94,6 +107,7 @@ fn lend_parts<'a>(regions: &'a mut PartRegions, words: &Vectors, ends: &mut Numb
         operators: regions.operators.lend_mut(&words.operators, end(ends)),
         rides: regions.rides.lend_mut(&words.rides, end(ends)),
         stamps: regions.stamps.lend_mut(&words.stamps, end(ends)),
+        revisions: regions.revisions.lend_mut(&words.revisions, end(ends)),
         index: regions.index.lend_mut(&words.index, end(ends)),
     }
 }
@@ -104,6 +118,7 @@ fn view_parts<'a>(regions: &'a mut PartRegions, words: &Vectors, ends: &mut Numb
         operators: regions.operators.lend(&words.operators, end(ends)),
         rides: regions.rides.lend(&words.rides, end(ends)),
         stamps: regions.stamps.lend(&words.stamps, end(ends)),
+        revisions: regions.revisions.lend(&words.revisions, end(ends)),
         index: regions.index.lend(&words.index, end(ends)),
     }
 }
@@ -118,9 +133,10 @@ pub struct Totals {
     pub lists: u64,
     pub listed_messages: u64,
     pub previews: u64,
-    pub numbers: [u64; 13],
-    /// Previews by number, 0 to 10.
-    pub preview_numbers: [u64; 11],
+    pub numbers: Given,
+    /// The numbers of the messages of lists, and of previews.
+    pub listed_numbers: Given,
+    pub preview_numbers: Given,
     /// Previews whose message was then sent to the board.
     pub sent: u64,
     /// Previews whose spare memory was the board of the calls after them.
@@ -141,21 +157,23 @@ impl Totals {
         self.builds + self.queries + self.peels + self.messages + self.lists + self.previews
     }
 
-    /// Counts a number that a call gave. One that no call gives is a difference, also where both sides give it.
-    fn number(&mut self, head: Head, code: u16) {
+    /// Counts a number that a call gave.
+    fn number(&mut self, call: &str, can_give: &[u16], head: Head, code: u16) {
         self.largest += (code == 0 && (head.operators, head.rides) == (200, 60)) as u64;
-        match self.numbers.get_mut(code as usize) {
-            Some(count) if code != NEVER_GIVEN => *count += 1,
-            _ => self.differ(&format!("number {code} is given")),
-        }
+        *self.numbers.entry(code).or_default() += 1;
+        self.check_number(call, can_give, code);
     }
 
-    /// Counts a number that a preview gave. One that no preview gives is a difference, also where both sides give it.
-    fn preview_number(&mut self, head: Head, code: u16) {
-        self.number(head, code);
-        match self.preview_numbers.get_mut(code as usize) {
-            Some(count) => *count += 1,
-            None => self.differ(&format!("a preview gives {code}")),
+    /// Counts the number of a message of a list.
+    fn listed_number(&mut self, code: u16) {
+        *self.listed_numbers.entry(code).or_default() += 1;
+        self.check_number("message of a list", LISTED_NUMBERS, code);
+    }
+
+    /// A number that can't be given is a difference, also where both sides give it.
+    fn check_number(&mut self, call: &str, can_give: &[u16], code: u16) {
+        if !can_give.contains(&code) {
+            self.differ(&format!("{call}: {code} is given"));
         }
     }
 
@@ -188,10 +206,11 @@ impl Totals {
         A: Deref<Target = [u16]>,
         B: Deref<Target = [u32]>,
     {
-        let Parts { operators, rides, stamps, index } = library;
+        let Parts { operators, rides, stamps, revisions, index } = library;
         self.same_words(call, "operators", operators, &reference.operators);
         self.same_words(call, "rides", rides, &reference.rides);
         self.same_words(call, "stamps", stamps, &reference.stamps);
+        self.same_words(call, "revisions", revisions, &reference.revisions);
         self.same_words(call, "index", index, &reference.index);
     }
 
@@ -234,7 +253,7 @@ impl<B: Library> Compared<B> {
         let mut parts = lend_parts(&mut regions.parts, &before, ends);
         let found = library.build(lent.head, &mut parts, start);
         totals.builds += 1;
-        totals.number(lent.head, found);
+        totals.number("build", BUILD_NUMBERS, lent.head, found);
         totals.same("build", found, expected);
         totals.same_parts("build", &parts, &lent.parts);
         self.check_filled();
@@ -249,7 +268,7 @@ impl<B: Library> Compared<B> {
         let left = regions.marks.lend_mut(&before, end(ends));
         let found = library.query(lent.head, index, alpha, beta, left);
         totals.queries += 1;
-        totals.number(lent.head, found.code);
+        totals.number("query", QUERY_NUMBERS, lent.head, found.code);
         totals.limits(found.code, alpha, beta);
         totals.same("query", found, expected);
         totals.same_words("query", "index", index, &lent.parts.index);
@@ -267,7 +286,7 @@ impl<B: Library> Compared<B> {
         let left = regions.marks.lend_mut(&before, end(ends));
         let found = library.peel(lent.head, operators, rides, left, alpha, beta, steps);
         totals.peels += 1;
-        totals.number(lent.head, found.code);
+        totals.number("peel", PEEL_NUMBERS, lent.head, found.code);
         totals.limits(found.code, alpha, beta);
         totals.settled += (found.code == 0 && found.settled == 1) as u64;
         totals.unsettled += (found.code == 0 && found.settled == 0) as u64;
@@ -287,7 +306,7 @@ impl<B: Library> Compared<B> {
         let mut parts = lend_parts(&mut regions.parts, &before.parts, ends);
         let found = library.message(&mut head[0], &mut parts, one);
         totals.messages += 1;
-        totals.number(lent.head, found.code);
+        totals.number("message", MESSAGE_NUMBERS, lent.head, found.code);
         totals.same("message", found, expected);
         totals.same_words("message", "head", head, &[lent.head]);
         totals.same_parts("message", &parts, &lent.parts);
@@ -306,7 +325,10 @@ impl<B: Library> Compared<B> {
         let found = library.messages(&mut head[0], &mut parts, messages, left);
         totals.lists += 1;
         totals.listed_messages += list.len() as u64;
-        totals.number(lent.head, found);
+        totals.number("message list", LIST_NUMBERS, lent.head, found);
+        if found == 0 {
+            left.iter().take(list.len()).for_each(|code| totals.listed_number(*code));
+        }
         totals.same("message list", found, expected);
         totals.same_words("message list", "head", head, &[lent.head]);
         totals.same_parts("message list", &parts, &lent.parts);
@@ -325,7 +347,8 @@ impl<B: Library> Compared<B> {
         let mut left = lend_parts(&mut regions.spare, &before.parts, ends);
         let found = library.preview(lent.head, &parts, one, &mut head[0], &mut left);
         totals.previews += 1;
-        totals.preview_number(lent.head, found.code);
+        totals.number("preview", MESSAGE_NUMBERS, lent.head, found.code);
+        *totals.preview_numbers.entry(found.code).or_default() += 1;
         totals.same("preview", found, expected);
         totals.same_parts("preview", &parts, &lent.parts);
         totals.same_words("preview", "spare head", head, &[spare.head]);
@@ -339,23 +362,22 @@ impl<B: Library> Compared<B> {
 mod tests {
     use super::*;
 
+    /// 14 is for messages and previews alone, 11 and 13 are for no call.
     #[test]
-    fn a_number_that_no_call_gives_is_a_difference() {
-        for code in 0..=14 {
+    fn a_number_that_a_call_cannot_give_is_a_difference() {
+        let head = Head { operators: 4, rides: 3, pairs: 7 };
+        for (can_give, count) in [
+            (BUILD_NUMBERS, 7),
+            (QUERY_NUMBERS, 4),
+            (PEEL_NUMBERS, 7),
+            (MESSAGE_NUMBERS, 12),
+            (LIST_NUMBERS, 7),
+            (LISTED_NUMBERS, 6),
+        ] {
             let mut totals = Totals::default();
-            totals.number(Head { operators: 4, rides: 3, pairs: 7 }, code);
-            let is_given = code <= 12 && code != 11;
-            assert_eq!((totals.numbers.iter().sum::<u64>(), totals.differences), (is_given as u64, !is_given as u64));
-        }
-    }
-
-    #[test]
-    fn a_number_that_no_preview_gives_is_a_difference() {
-        for code in 0..=14 {
-            let mut totals = Totals::default();
-            totals.preview_number(Head { operators: 4, rides: 3, pairs: 7 }, code);
-            assert_eq!(totals.preview_numbers.iter().sum::<u64>(), (code <= 10) as u64);
-            assert_eq!(totals.differences == 0, code <= 10);
+            (0..=20).for_each(|code| totals.number("call", can_give, head, code));
+            assert_eq!((totals.numbers.values().sum::<u64>(), totals.differences), (21, 21 - count));
+            assert!(!can_give.contains(&11) && !can_give.contains(&13));
         }
     }
 
@@ -365,7 +387,8 @@ mod tests {
     fn a_preview_that_is_not_what_the_message_does_is_a_difference() {
         let taken = Answer { code: 0, differ: 5 };
         let head = Head { operators: 2, rides: 1, pairs: 1 };
-        let parts = Vectors { operators: vec![0; 3], rides: vec![0; 3], stamps: vec![0; 3], index: vec![0; 4] };
+        let (operators, rides, stamps, revisions) = (vec![0; 3], vec![0; 3], vec![0; 3], vec![0; 3]);
+        let parts = Vectors { operators, rides, stamps, revisions, index: vec![0; 4] };
         let board = Lent { head, parts };
         let differences = |answer: Answer, change: fn(&mut Lent)| {
             let (mut totals, mut spare) = (Totals::default(), board.clone());
@@ -377,12 +400,14 @@ mod tests {
         assert_eq!(differences(taken, |spare| spare.parts.operators[2] = 9), 0);
         assert_eq!(differences(taken, |spare| spare.parts.rides[2] = 9), 0);
         assert_eq!(differences(taken, |spare| spare.parts.stamps[2] = 9), 0);
+        assert_eq!(differences(taken, |spare| spare.parts.revisions[2] = 9), 0);
         assert_eq!(differences(taken, |spare| spare.parts.index[3] = 9), 0);
         assert_eq!(differences(Answer { code: 0, differ: 4 }, |_| {}), 1);
         assert_eq!(differences(taken, |spare| spare.head.pairs = 0), 1);
         assert_eq!(differences(taken, |spare| spare.parts.operators[1] = 9), 1);
         assert_eq!(differences(taken, |spare| spare.parts.rides[1] = 9), 1);
         assert_eq!(differences(taken, |spare| spare.parts.stamps[1] = 9), 1);
+        assert_eq!(differences(taken, |spare| spare.parts.revisions[1] = 9), 1);
         assert_eq!(differences(taken, |spare| spare.parts.index[2] = 9), 1);
     }
 }

@@ -23,7 +23,8 @@ fn head_of(head: Head) -> board::Head {
 }
 
 fn message_of(message: Message) -> board::Message {
-    board::Message { kind: message.kind, operator: message.operator, ride: message.ride, stamp: message.stamp }
+    let Message { kind, operator, ride, revision, stamp } = message;
+    board::Message { kind, operator, ride, revision, stamp }
 }
 
 /// The head and the message of the two packages lie alike in memory, so that a lent one is passed as it stands.
@@ -38,6 +39,7 @@ const _: () = {
     assert!(offset_of!(Message, kind) == offset_of!(board::Message, kind));
     assert!(offset_of!(Message, operator) == offset_of!(board::Message, operator));
     assert!(offset_of!(Message, ride) == offset_of!(board::Message, ride));
+    assert!(offset_of!(Message, revision) == offset_of!(board::Message, revision));
     assert!(offset_of!(Message, stamp) == offset_of!(board::Message, stamp));
 };
 
@@ -47,7 +49,7 @@ pub struct Proved;
 
 impl Board for Proved {
     fn build(&mut self, head: Head, parts: &mut Slices, start: u32) -> u16 {
-        let Parts { operators, rides, stamps, index } = parts;
+        let Parts { operators, rides, stamps, revisions, index } = parts;
         unsafe {
             exported::board_build(
                 head_of(head),
@@ -58,6 +60,8 @@ impl Board for Proved {
                 start,
                 stamps.as_mut_ptr(),
                 stamps.len(),
+                revisions.as_mut_ptr(),
+                revisions.len(),
                 index.as_mut_ptr(),
                 index.len(),
             )
@@ -100,7 +104,7 @@ impl Board for Proved {
     }
 
     fn message(&mut self, head: &mut Head, parts: &mut Slices, message: Message) -> Answer {
-        let Parts { operators, rides, stamps, index } = parts;
+        let Parts { operators, rides, stamps, revisions, index } = parts;
         let answer = unsafe {
             exported::board_message(
                 (head as *mut Head).cast(),
@@ -110,6 +114,8 @@ impl Board for Proved {
                 rides.len(),
                 stamps.as_mut_ptr(),
                 stamps.len(),
+                revisions.as_mut_ptr(),
+                revisions.len(),
                 index.as_mut_ptr(),
                 index.len(),
                 message_of(message),
@@ -119,7 +125,7 @@ impl Board for Proved {
     }
 
     fn messages(&mut self, head: &mut Head, parts: &mut Slices, messages: &[Message], answers: &mut [u16]) -> u16 {
-        let Parts { operators, rides, stamps, index } = parts;
+        let Parts { operators, rides, stamps, revisions, index } = parts;
         unsafe {
             exported::board_messages(
                 (head as *mut Head).cast(),
@@ -129,6 +135,8 @@ impl Board for Proved {
                 rides.len(),
                 stamps.as_mut_ptr(),
                 stamps.len(),
+                revisions.as_mut_ptr(),
+                revisions.len(),
                 index.as_mut_ptr(),
                 index.len(),
                 messages.as_ptr().cast(),
@@ -149,7 +157,7 @@ impl Library for Proved {
         spare_head: &mut Head,
         spare: &mut Slices,
     ) -> Answer {
-        let Parts { operators, rides, stamps, index } = parts;
+        let Parts { operators, rides, stamps, revisions, index } = parts;
         let answer = unsafe {
             exported::board_preview(
                 head_of(head),
@@ -159,6 +167,8 @@ impl Library for Proved {
                 rides.len(),
                 stamps.as_ptr(),
                 stamps.len(),
+                revisions.as_ptr(),
+                revisions.len(),
                 index.as_ptr(),
                 index.len(),
                 message_of(message),
@@ -169,6 +179,8 @@ impl Library for Proved {
                 spare.rides.len(),
                 spare.stamps.as_mut_ptr(),
                 spare.stamps.len(),
+                spare.revisions.as_mut_ptr(),
+                spare.revisions.len(),
                 spare.index.as_mut_ptr(),
                 spare.index.len(),
             )

@@ -6,7 +6,7 @@ mod faults;
 mod numbers;
 mod sequences;
 
-use compared::{Compared, Totals, NEVER_GIVEN};
+use compared::{Compared, Totals};
 use differential::Proved;
 use numbers::Numbers;
 use sequences::{delivery, sequence, Size};
@@ -26,10 +26,9 @@ fn print_totals(totals: &Totals) {
         "  accepted with α = 0 alone {}, with β = 0 alone {}, with both 0 {}",
         totals.alpha_zero, totals.beta_zero, totals.both_zero
     );
-    for (number, count) in totals.numbers.iter().enumerate().filter(|(number, _)| *number != NEVER_GIVEN as usize) {
-        println!("  answered {number}: {count}");
-    }
-    println!("  previews answered 0 to 10: {:?}", totals.preview_numbers);
+    println!("  answers by number: {:?}", totals.numbers);
+    println!("  answers of previews: {:?}", totals.preview_numbers);
+    println!("  answers of messages of lists: {:?}", totals.listed_numbers);
     println!("message sets delivered in several orders: {}", totals.deliveries);
     println!("lent words compared: {}", totals.words);
     println!("differences: {}", totals.differences);

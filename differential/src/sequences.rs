@@ -78,6 +78,7 @@ fn parts(numbers: &mut Numbers, lengths: Lengths) -> Vectors {
         operators: (0..lengths.operators).map(|_| numbers.word()).collect(),
         rides: (0..lengths.rides).map(|_| numbers.word()).collect(),
         stamps: (0..lengths.stamps).map(|_| numbers.next() as u32).collect(),
+        revisions: (0..lengths.revisions).map(|_| numbers.word()).collect(),
         index: (0..lengths.index).map(|_| numbers.word()).collect(),
     }
 }
@@ -104,12 +105,16 @@ fn resize<T: Clone + Default>(numbers: &mut Numbers, part: &mut Vec<T>, most: us
     part.resize(length, T::default());
 }
 
-/// Cuts one of the four parts short, or makes it longer.
+/// How many parts a board has.
+const PARTS: usize = 5;
+
+/// Cuts one of the parts short, or makes it longer.
 fn resize_part(numbers: &mut Numbers, parts: &mut Vectors, part: usize) {
     match part {
         0 => resize(numbers, &mut parts.operators, PAIRS_MOST),
         1 => resize(numbers, &mut parts.rides, PAIRS_MOST),
         2 => resize(numbers, &mut parts.stamps, PAIRS_MOST),
+        3 => resize(numbers, &mut parts.revisions, PAIRS_MOST),
         _ => resize(numbers, &mut parts.index, INDEX_MOST),
     }
 }
@@ -125,7 +130,7 @@ fn spoil(numbers: &mut Numbers, part: &mut [u16], word: u16) {
 fn damage(numbers: &mut Numbers, lent: &mut Lent) {
     let (head, parts) = (lent.head, &mut lent.parts);
     let pairs = head.pairs as usize;
-    match numbers.below(14) {
+    match numbers.below(16) {
         0 => {
             lent.head.operators =
                 numbers.of(&[201, 65535, head.operators.saturating_add(1), head.operators.saturating_sub(1)])
@@ -135,28 +140,29 @@ fn damage(numbers: &mut Numbers, lent: &mut Lent) {
             let over = (head.places() + 1).min(65535) as u16;
             lent.head.pairs = numbers.of(&[over, 65535, head.pairs.saturating_add(1), head.pairs.saturating_sub(1)])
         }
-        part @ 3..=6 => resize_part(numbers, parts, part - 3),
-        7 => {
+        part @ 3..=7 => resize_part(numbers, parts, part - 3),
+        8 => {
             let word = numbers.of(&[0, head.operators, head.operators.saturating_sub(1), 65535]);
             let used = pairs.min(parts.operators.len());
             spoil(numbers, &mut parts.operators[..used], word);
         }
-        8 => {
+        9 => {
             let word = numbers.of(&[0, head.rides, head.rides.saturating_sub(1), 65535]);
             let used = pairs.min(parts.rides.len());
             spoil(numbers, &mut parts.rides[..used], word);
         }
-        9 if 2 <= pairs && pairs <= parts.operators.len().min(parts.rides.len()) => {
+        10 if 2 <= pairs && pairs <= parts.operators.len().min(parts.rides.len()) => {
             let place = numbers.below(pairs - 1);
             parts.operators.swap(place, place + 1);
             parts.rides.swap(place, place + 1);
         }
-        10 if !parts.stamps.is_empty() => {
+        11 if !parts.stamps.is_empty() => {
             let place = numbers.below(parts.stamps.len());
             parts.stamps[place] = numbers.of(&[0, 1, START, u32::MAX]);
         }
-        11 => parts.stamps.iter_mut().for_each(|stamp| *stamp = 0),
-        12 => {
+        12 => parts.stamps.iter_mut().for_each(|stamp| *stamp = 0),
+        13 => parts.revisions.iter_mut().for_each(|word| *word = revision(numbers)),
+        14 => {
             let word = numbers.word();
             spoil(numbers, &mut parts.index, word);
         }
@@ -206,21 +212,48 @@ fn marks(numbers: &mut Numbers, head: Head) -> Vec<u16> {
     marks
 }
 
-/// A message, mostly valid, whose stamp is often near those of others.
-fn message(numbers: &mut Numbers, head: Head) -> Message {
+/// A revision: mostly a small one, so that many are equal; some are near 255, or far above it.
+fn revision(numbers: &mut Numbers) -> u16 {
+    match numbers.below(20) {
+        0 => numbers.of(&[254, 255, 256, 257]),
+        1 => numbers.of(&[300, 65535]),
+        _ => numbers.below(4) as u16,
+    }
+}
+
+/// The stamp and the revision that a board has of a pair. Those of a build's grant where there is no such place, or the
+/// pair was never heard of.
+fn last(lent: &Lent, operator: u16, ride: u16) -> (u32, u16) {
+    let place = operator as usize * lent.head.rides as usize + ride as usize;
+    match (lent.parts.stamps.get(place), lent.parts.revisions.get(place)) {
+        (Some(&stamp), Some(&revision)) if stamp != 0 => (stamp, revision),
+        _ => (START, 0),
+    }
+}
+
+/// A message, mostly valid. Its stamp is often that of its pair's last or near those of others, and so is its revision.
+fn message(numbers: &mut Numbers, lent: &Lent) -> Message {
     let number = |numbers: &mut Numbers, size: u16| match numbers.below(30) {
         0 => size,
         1 => numbers.word(),
         _ => numbers.below(size.max(1) as usize) as u16,
     };
+    let (operator, ride) = (number(numbers, lent.head.operators), number(numbers, lent.head.rides));
+    let (last_stamp, last_revision) = last(lent, operator, ride);
     Message {
         kind: if numbers.one_in(25) { numbers.of(&[0, 3, 65535]) } else { numbers.of(&[GRANT, WITHDRAWAL]) },
-        operator: number(numbers, head.operators),
-        ride: number(numbers, head.rides),
+        operator,
+        ride,
+        revision: match numbers.below(6) {
+            0 => last_revision,
+            1 => last_revision.saturating_add(1),
+            _ => revision(numbers),
+        },
         stamp: match numbers.below(30) {
             0 => 0,
             1 => u32::MAX,
             2 => numbers.next() as u32,
+            3..=11 => last_stamp,
             _ => START - 3 + numbers.below(40) as u32,
         },
     }
@@ -240,11 +273,12 @@ fn spare(numbers: &mut Numbers, board: Head) -> Lent {
         operators: length(numbers, needed.operators).min(PAIRS_MOST),
         rides: length(numbers, needed.rides).min(PAIRS_MOST),
         stamps: length(numbers, needed.stamps).min(PAIRS_MOST),
+        revisions: length(numbers, needed.revisions).min(PAIRS_MOST),
         index: length(numbers, needed.index).min(INDEX_MOST),
     };
     let mut parts = parts(numbers, lengths);
     if numbers.one_in(4) {
-        let part = numbers.below(4);
+        let part = numbers.below(PARTS);
         resize_part(numbers, &mut parts, part);
     }
     let head = if numbers.one_in(4) { board } else { any_head(numbers) };
@@ -254,7 +288,7 @@ fn spare(numbers: &mut Numbers, board: Head) -> Lent {
 /// A preview. Where it isn't refused, its message is sent to the board now and then, or the spare memory takes the board's
 /// place.
 fn preview<B: Library>(compared: &mut Compared<B>, numbers: &mut Numbers, board: &mut Lent) {
-    let one = message(numbers, board.head);
+    let one = message(numbers, board);
     let mut spare = spare(numbers, board.head);
     let answer = compared.preview(board, one, &mut spare);
     if answer.code != 0 {
@@ -311,13 +345,13 @@ pub fn sequence<B: Library>(compared: &mut Compared<B>, numbers: &mut Numbers, s
                 compared.peel(&board, &mut marks, alpha, beta, steps);
             }
             5..=6 => {
-                let one = message(numbers, board.head);
+                let one = message(numbers, &board);
                 compared.message(&mut board, one);
             }
             7..=8 => preview(compared, numbers, &mut board),
             _ => {
                 let count = numbers.below(size.messages() + 1);
-                let list: Vec<Message> = (0..count).map(|_| message(numbers, board.head)).collect();
+                let list: Vec<Message> = (0..count).map(|_| message(numbers, &board)).collect();
                 let mut answers = vec![77; count + numbers.of(&[0, 0, 1, 4])];
                 if numbers.one_in(8) {
                     resize(numbers, &mut answers, LIST_MOST);
@@ -339,10 +373,14 @@ fn deliver<B: Library>(compared: &mut Compared<B>, numbers: &mut Numbers, board:
         let count = 1 + numbers.below(rest.len().min(6));
         let (first, others) = rest.split_at(count);
         if numbers.one_in(6) && 0 < board.head.places() {
-            let whole = board.parts.stamps.clone();
-            board.parts.stamps.truncate(board.head.places() - 1);
+            let whole = board.parts.clone();
+            if numbers.one_in(2) {
+                board.parts.stamps.truncate(board.head.places() - 1);
+            } else {
+                board.parts.revisions.truncate(board.head.places() - 1);
+            }
             compared.message(board, first[0]);
-            board.parts.stamps = whole;
+            board.parts = whole;
         }
         if numbers.one_in(2) {
             for one in first {
@@ -355,6 +393,49 @@ fn deliver<B: Library>(compared: &mut Compared<B>, numbers: &mut Numbers, board:
     }
 }
 
+/// Messages for a board, some of them corrections of others within one stamp.
+fn some_messages(numbers: &mut Numbers, lent: &Lent, count: usize) -> Vec<Message> {
+    let mut messages: Vec<Message> = (0..count).map(|_| message(numbers, lent)).collect();
+    for _ in 0..numbers.below(count) {
+        let corrected = messages[numbers.below(count)];
+        messages.push(Message { kind: numbers.of(&[GRANT, WITHDRAWAL]), revision: revision(numbers), ..corrected });
+    }
+    messages
+}
+
+/// The book: for each pair that has an entry the stamp, the revision and the kind of its latest.
+type Book = BTreeMap<(u16, u16), (u32, u16, u16)>;
+
+fn book(head: Head, pairs: &[(u16, u16)], messages: &[Message]) -> Book {
+    let mut latest: Book = pairs.iter().map(|pair| (*pair, (START, 0, GRANT))).collect();
+    let is_valid = |one: &&Message| {
+        let is_in_range = one.operator < head.operators && one.ride < head.rides;
+        (one.kind == GRANT || one.kind == WITHDRAWAL) && is_in_range && one.stamp != 0 && one.revision <= 255
+    };
+    for one in messages.iter().filter(is_valid) {
+        let entry = latest.entry((one.operator, one.ride)).or_default();
+        *entry = (one.stamp, one.revision, one.kind).max(*entry);
+    }
+    latest
+}
+
+/// The board that is worked out from a book, in memory that a build left.
+fn worked_out(built: &Lent, book: &Book) -> Lent {
+    let Lent { mut head, mut parts } = built.clone();
+    let listed = book.iter().filter(|entry| entry.1 .2 == GRANT).map(|entry| *entry.0);
+    head.pairs = listed.clone().count() as u16;
+    for (place, pair) in listed.enumerate() {
+        (parts.operators[place], parts.rides[place]) = pair;
+    }
+    reference::build(head, &mut parts.lend(), START);
+    parts.stamps[..head.places()].fill(0);
+    for ((operator, ride), (stamp, revision, _)) in book {
+        let place = *operator as usize * head.rides as usize + *ride as usize;
+        (parts.stamps[place], parts.revisions[place]) = (*stamp, *revision);
+    }
+    Lent { head, parts }
+}
+
 /// Demand 3 on the library itself: the same messages in two orders, one of them with repeats, leave the same board, the
 /// one that is worked out from the latest message of each pair.
 pub fn delivery<B: Library>(compared: &mut Compared<B>, numbers: &mut Numbers, size: Size) {
@@ -365,28 +446,8 @@ pub fn delivery<B: Library>(compared: &mut Compared<B>, numbers: &mut Numbers, s
         return;
     }
     let count = 2 + numbers.below(2 * size.messages());
-    let mut messages: Vec<Message> = (0..count).map(|_| message(numbers, built.head)).collect();
-
-    let mut latest: BTreeMap<(u16, u16), (u32, u16)> = pairs.iter().map(|pair| (*pair, (START, GRANT))).collect();
-    let is_valid = |one: &&Message| {
-        (one.kind == GRANT || one.kind == WITHDRAWAL) && one.operator < n && one.ride < m && one.stamp != 0
-    };
-    for one in messages.iter().filter(is_valid) {
-        let entry = latest.entry((one.operator, one.ride)).or_default();
-        *entry = (one.stamp, one.kind).max(*entry);
-    }
-    let listed: Vec<(u16, u16)> = latest.iter().filter(|entry| entry.1 .1 == GRANT).map(|entry| *entry.0).collect();
-    let Lent { mut head, mut parts } = built.clone();
-    head.pairs = listed.len() as u16;
-    for (place, pair) in listed.iter().enumerate() {
-        (parts.operators[place], parts.rides[place]) = *pair;
-    }
-    reference::build(head, &mut parts.lend(), START);
-    parts.stamps[..head.places()].fill(0);
-    for ((operator, ride), (stamp, _)) in &latest {
-        parts.stamps[*operator as usize * m as usize + *ride as usize] = *stamp;
-    }
-    let expected = Lent { head, parts };
+    let mut messages = some_messages(numbers, &built, count);
+    let expected = worked_out(&built, &book(built.head, &pairs, &messages));
 
     for repeated in [false, true] {
         let mut board = built.clone();

@@ -1,4 +1,4 @@
--- A message entered: its stamp stored and its pair added or removed are what the board then says. Assumes nothing.
+-- A message entered: its stamp and revision stored and its pair added or removed are what the board then says. Assumes nothing.
 use mathlib.Core.Path.{_≡_, refl, sym, ap, ap₂, _∙_, subst}
 use mathlib.Core.Bool.{Bool, true, false, _&&_}
 use mathlib.Core.List.{List, [], _++_, map}
@@ -12,23 +12,22 @@ use Rattle.model.specs.declared.Head.{Head}
 use Rattle.model.specs.declared.Message.{Message}
 use Rattle.model.specs.Count.{rows}
 use Rattle.model.specs.Graph.{Graph}
-use Rattle.model.specs.Layout.{Stamps, lent, pair-places, over, sized}
-use Rattle.model.specs.Refusal.{refused-7, refused-8, refused-9, first-number, message-cases}
+use Rattle.model.specs.Layout.{lent, pair-places, over, sized}
+use Rattle.model.specs.Refusal.{first-number, message-cases}
 use Rattle.model.specs.Contents.{Slot, Pair, Entry, Contents, slot, entry, given, contents, pair-place, pair-numbers, padded, words}
 use Rattle.model.proofs.Count.{length-rows}
-use Rattle.model.proofs.Chain.{first-none}
-use Rattle.model.proofs.Refusal.{tests-valid}
+use Rattle.model.proofs.Refusal.{cases-none}
 use Rattle.model.proofs.Pairs.{number-same, rows-only}
 use Rattle.model.proofs.Contents.{by-slot, put-same, put-other}
 use Rattle.changes.specs.Change.{graph-with, Changed}
 use Rattle.entries.specs.Enter.{Enters, next, Entered}
 
-module _ (h : Head) (m : Message) (operators rides stamps : List ℕ) (ready : Enters h m operators rides stamps) where
+module _ (h : Head) (m : Message) (operators rides stamps revisions : List ℕ) (ready : Enters h m operators rides stamps revisions) where
   abbrev before : Contents
-  before = contents (lent h operators rides stamps [])
+  before = contents (lent h operators rides stamps revisions [])
 
   abbrev after : Contents
-  after = next h m operators rides stamps
+  after = next h m operators rides stamps revisions
 
   abbrev place : ℕ
   place = pair-place h (m .operator) (m .ride)
@@ -44,42 +43,40 @@ module _ (h : Head) (m : Message) (operators rides stamps : List ℕ) (ready : E
       go true e = refl
       go false e = refl
 
-  -- the stamps with one stored
-  stamp-at : (u v : ℕ) → u < h .operators → v < h .rides → getD (set stamps place (m .stamp)) (u * h .rides + v) 0 ≡ after (Pair u v) .stamp
-  stamp-at u v a b =
-      by-slot (Pair u v) (slot m)
-      (λ q. subst (λ (x : Slot). at x ≡ after x .stamp) (sym q) (getD-set-same stamps place (m .stamp) 0 (omega (arith, place-inside, ready .room .stamps-long)) ∙ sym (ap (λ (e : Entry). e .stamp) (put-same before (slot m) (entry m)))))
-      (λ n. getD-set-other stamps place (u * h .rides + v) (m .stamp) 0 (λ e. let k = number-same (h .rides) u v (m .operator) (m .ride) b (ready .ride) e in n (ap₂ Pair (k .0) (k .1))) ∙ sym (ap (λ (e : Entry). e .stamp) (put-other before (slot m) (entry m) (Pair u v) n)))
-    where
-      at : Slot → ℕ
-      at (Pair x y) = getD (set stamps place (m .stamp)) (x * h .rides + y) 0
+  -- words for each pair, the message's own stored at its pair's place
+  module _ (f : Entry → ℕ) (old : List ℕ) (long : pair-places h ≤ length old) (holds : (u v : ℕ) → getD old (pair-place h u v) 0 ≡ f (before (Pair u v))) where
+    word-at : (u v : ℕ) → u < h .operators → v < h .rides → getD (set old place (f (entry m))) (u * h .rides + v) 0 ≡ f (after (Pair u v))
+    word-at u v a b =
+        by-slot (Pair u v) (slot m)
+        (λ q. subst (λ (x : Slot). at x ≡ f (after x)) (sym q) (getD-set-same old place (f (entry m)) 0 (omega (arith, place-inside)) ∙ sym (ap f (put-same before (slot m) (entry m)))))
+        (λ n. getD-set-other old place (u * h .rides + v) (f (entry m)) 0 (λ e. let k = number-same (h .rides) u v (m .operator) (m .ride) b (ready .ride) e in n (ap₂ Pair (k .0) (k .1))) ∙ holds u v ∙ sym (ap f (put-other before (slot m) (entry m) (Pair u v) n)))
+      where
+        at : Slot → ℕ
+        at (Pair x y) = getD (set old place (f (entry m))) (x * h .rides + y) 0
 
-  stamps-set : set stamps place (m .stamp) ≡ over (words h after Stamps) stamps
-  unfolding words
-  stamps-set =
-      let l = set stamps place (m .stamp) in
-      let f : ℕ → ℕ → ℕ = λ u v. after (Pair u v) .stamp in
-      let long : pair-places h ≤ length l = omega (arith, length-set stamps place (m .stamp), ready .room .stamps-long) in
-      let first = rows-only (h .operators) (h .rides) f (take (pair-places h) l) (length-take-le (pair-places h) l long) (λ u v a b. getD-take (pair-places h) l (u * h .rides + v) 0 (digits-lt a b) ∙ stamp-at u v a b) in
-      sym (take-append-drop (pair-places h) l) ∙ ap₂ (λ (x y : List ℕ). x ++ y) first (drop-set-lt (pair-places h) stamps place (m .stamp) place-inside) ∙
-      ap (λ (k : ℕ). rows (h .operators) (h .rides) f ++ drop k stamps) (sym (length-rows (h .rides) f (h .operators)))
+    words-set : set old place (f (entry m)) ≡ over (rows (h .operators) (h .rides) (λ u v. f (after (Pair u v)))) old
+    words-set =
+        let l = set old place (f (entry m)) in
+        let g : ℕ → ℕ → ℕ = λ u v. f (after (Pair u v)) in
+        let enough : pair-places h ≤ length l = omega (arith, length-set old place (f (entry m))) in
+        let first = rows-only (h .operators) (h .rides) g (take (pair-places h) l) (length-take-le (pair-places h) l enough) (λ u v a b. getD-take (pair-places h) l (u * h .rides + v) 0 (digits-lt a b) ∙ word-at u v a b) in
+        sym (take-append-drop (pair-places h) l) ∙ ap₂ (λ (x y : List ℕ). x ++ y) first (drop-set-lt (pair-places h) old place (f (entry m)) place-inside) ∙
+        ap (λ (k : ℕ). rows (h .operators) (h .rides) g ++ drop k old) (sym (length-rows (h .rides) g (h .operators)))
 
-  pub entered-done : (count : ℕ) (operators′ rides′ stamps′ : List ℕ) → stamps′ ≡ set stamps place (m .stamp) → Changed h operators rides (m .operator) (m .ride) (eqb (m .kind) 1) count operators′ rides′ → Entered h m operators rides stamps count operators′ rides′ stamps′
+  pub entered-done : (count : ℕ) (operators′ rides′ stamps′ revisions′ : List ℕ) → (stamps′ ≡ set stamps place (m .stamp)) × (revisions′ ≡ set revisions place (m .revision)) → Changed h operators rides (m .operator) (m .ride) (eqb (m .kind) 1) count operators′ rides′ → Entered h m operators rides stamps revisions count operators′ rides′ stamps′ revisions′
   unfolding words
-  entered-done count operators′ rides′ stamps′ s c =
+  entered-done count operators′ rides′ stamps′ revisions′ s c =
       record {
         pairs = c .pairs ∙ ap (λ (g : Graph). length (pair-numbers g)) cleared-after;
         operator-words = c .operator-words ∙ ap (λ (g : Graph). over (padded (pair-places h) (map (λ k. k / h .rides) (pair-numbers g))) operators) cleared-after;
         ride-words = c .ride-words ∙ ap (λ (g : Graph). over (padded (pair-places h) (map (λ k. k % h .rides) (pair-numbers g))) rides) cleared-after;
-        stamp-words = s ∙ stamps-set;
+        stamp-words = s .0 ∙ words-set (λ e. e .stamp) stamps (ready .room .stamps-long) (λ u v. refl);
+        revision-words = s .1 ∙ words-set (λ e. e .revision) revisions (ready .room .revisions-long) (λ u v. refl);
       }
 
--- ---- a message to which 7 to 10 do not apply is in range
+-- ---- a message to which none of 7 to 10 and 14 applies is in range
 
-pub none-in-range : (h : Head) (m : Message) (operators rides stamps : List ℕ) → first-number (message-cases (lent h operators rides stamps []) m) ≡ 0 → (m .operator < h .operators) × (m .ride < h .rides)
-none-in-range h m operators rides stamps e =
-    let n7 = first-none 6 (refused-7 m) _ e in
-    let n8 = first-none 7 (refused-8 h m) _ (n7 .1) in
-    let n9 = first-none 8 (refused-9 (m .stamp)) _ (n8 .1) in
-    let v = tests-valid h m (n7 .0) (n8 .0) (n9 .0) in
+pub none-in-range : (h : Head) (m : Message) (operators rides stamps revisions : List ℕ) → first-number (message-cases (lent h operators rides stamps revisions []) m) ≡ 0 → (m .operator < h .operators) × (m .ride < h .rides)
+none-in-range h m operators rides stamps revisions e =
+    let v = cases-none (lent h operators rides stamps revisions []) m e .0 in
     (v .operator, v .ride)

@@ -7,7 +7,7 @@ use lib.ListN.{length, drop, length-append}
 use Rattle.model.specs.declared.Head.{Head}
 use Rattle.model.specs.declared.Message.{Message}
 use Rattle.model.specs.Graph.{index-of}
-use Rattle.model.specs.Layout.{Operators, Rides, Stamps, Index, Parts, Board, lent, listed, graph, board-graph}
+use Rattle.model.specs.Layout.{Operators, Rides, Stamps, Revisions, Index, Parts, Board, lent, listed, graph, board-graph}
 use Rattle.model.specs.Contents.{Slot, Pair, Contents, given, contents, words, board-of}
 use Rattle.model.proofs.Pairs.{pairs-fit, pairs-accepted}
 use Rattle.model.proofs.Refusal.{Accepted}
@@ -16,8 +16,8 @@ use Rattle.pairs.specs.Accepted.{AcceptedPairs}
 use Rattle.entries.specs.Enter.{Room, next, with-pairs, Entered}
 
 -- a board to which 1 to 6 do not apply has room for a message
-pub room-of : (h : Head) (operators rides stamps index : List ℕ) → Accepted (lent h operators rides stamps index) → Room h operators rides stamps
-room-of h operators rides stamps index a =
+pub room-of : (h : Head) (operators rides stamps revisions index : List ℕ) → Accepted (lent h operators rides stamps revisions index) → Room h operators rides stamps revisions
+room-of h operators rides stamps revisions index a =
     let t = a .table in
     let c = listed (h .pairs) operators rides in
     let fits = pairs-fit h operators rides c (t .pairs) in
@@ -32,26 +32,27 @@ room-of h operators rides stamps index a =
       operators-long = t .long Operators;
       rides-long = t .long Rides;
       stamps-long = t .long Stamps;
+      revisions-long = t .long Revisions;
     }
 
-module _ (h : Head) (m : Message) (operators rides stamps index : List ℕ) where
+module _ (h : Head) (m : Message) (operators rides stamps revisions index : List ℕ) where
   abbrev board : Board
-  board = lent h operators rides stamps index
+  board = lent h operators rides stamps revisions index
 
   abbrev after : Contents
-  after = next h m operators rides stamps
+  after = next h m operators rides stamps revisions
 
   -- the contents don't look at the index
-  pub says-same : contents (lent h operators rides stamps []) ≡ contents board
+  pub says-same : contents (lent h operators rides stamps revisions []) ≡ contents board
   says-same = λ j t. go t j
     where
-      go : (t : Slot) → contents (lent h operators rides stamps []) t ≡ contents board t
+      go : (t : Slot) → contents (lent h operators rides stamps revisions []) t ≡ contents board t
       go (Pair u v) = refl
 
   abbrev behind : Parts
   behind p = drop (length (words h after p)) (board .part p)
 
-  module _ (count : ℕ) (operators′ rides′ stamps′ : List ℕ) (entered : Entered h m operators rides stamps count operators′ rides′ stamps′) where
+  module _ (count : ℕ) (operators′ rides′ stamps′ revisions′ : List ℕ) (entered : Entered h m operators rides stamps revisions count operators′ rides′ stamps′ revisions′) where
     -- its pair arrays are the words of the new contents, with the old ones behind them
     same-graph : graph (with-pairs h count) operators′ rides′ ≡ board-graph (extend (board-of h after) behind)
     same-graph = λ j. graph (with-pairs h (entered .pairs j)) (entered .operator-words j) (entered .ride-words j)

@@ -1,4 +1,4 @@
--- 6 to 10: the tests of a board's stamps and of a message, and their place behind 1 to 5. Assumes nothing.
+-- 6 to 10 and 14: the tests of a board's stamps and of a message, and their place behind 1 to 5. Assumes nothing.
 use mathlib.Core.Path.{_≡_, sym, ap, _∙_, subst}
 use mathlib.Core.Logic.{_≢_}
 use mathlib.Core.Bool.{Bool, true, false, _||_}
@@ -11,10 +11,10 @@ use lib.ListN.{length}
 use Rattle.model.specs.declared.Head.{Head}
 use Rattle.model.specs.declared.Message.{Message}
 use Rattle.model.specs.Layout.{Operators, Rides, Parts, Board, pair-places, of-parts}
-use Rattle.model.specs.Refusal.{refused-1, refused-2, refused-3, refused-4, refused-5, refused-6, refused-7, refused-8, refused-9, refused-10, board-short, first-number, table-cases, board-cases, message-cases, message-refusal, preview-refusal, list-refusal}
+use Rattle.model.specs.Refusal.{refused-1, refused-2, refused-3, refused-4, refused-5, refused-6, refused-7, refused-8, refused-9, refused-10, refused-14, board-short, first-number, table-cases, board-cases, valid-cases, message-cases, message-refusal, preview-refusal, list-refusal}
 use Rattle.model.proofs.Count.{or-left, or-right, or-cases}
-use Rattle.model.proofs.Chain.{first-nil, first-here, first-skip, first-none, enough, Positive, first-front, first-behind}
-use Rattle.model.proofs.Refusal.{Valid, valid-kind, valid-pair, valid-stamp, tests-valid}
+use Rattle.model.proofs.Chain.{first-nil, first-here, first-skip, first-none, enough, lt-less, Positive, first-front, first-behind}
+use Rattle.model.proofs.Refusal.{valid-kind, valid-pair, valid-stamp, positive-valid}
 use Rattle.pairs.specs.Accepted.{AcceptedPairs}
 use Rattle.refusals.proofs.Chain.{table-first, table-rest}
 
@@ -49,61 +49,49 @@ module _ (b : Board) (short : Bool) (k : ℕ) (e : k ≡ first-number (table-cas
   pub stamped-0 : k ≡ 0 → refused-6 b ≡ false → 0 ≡ first-number (table-cases (b .head) short (b .part Operators) (b .part Rides) ++ six)
   stamped-0 z t = sym (first-skip 6 (refused-6 b) [] (λ x. subst T t x) ∙ first-nil) ∙ table-rest (b .head) short (b .part Operators) (b .part Rides) six k e z
 
--- ---- 7 to 9
+-- ---- 7 to 9 and 14
 
 module _ (h : Head) (m : Message) where
-  abbrev pub validity : List (ℕ × Bool)
-  validity = (7, refused-7 m) ∷ (8, refused-8 h m) ∷ (9, refused-9 (m .stamp)) ∷ []
-
-  number-7 : (m .kind ≢ 1) → (m .kind ≢ 2) → 7 ≡ first-number validity
+  number-7 : (m .kind ≢ 1) → (m .kind ≢ 2) → 7 ≡ first-number (valid-cases h m)
   number-7 p q =
       sym (first-here 7 (refused-7 m) _ (not-T (eqb (m .kind) 1 || eqb (m .kind) 2) (λ t. or-cases (eqb (m .kind) 1) (eqb (m .kind) 2) t (λ s. p (eqb→eq (m .kind) 1 s)) (λ s. q (eqb→eq (m .kind) 2 s)))))
 
-  pub kind-zero : m .kind ≡ 0 → 7 ≡ first-number validity
+  pub kind-zero : m .kind ≡ 0 → 7 ≡ first-number (valid-cases h m)
   kind-zero e = number-7 (omega arith) (omega arith)
 
-  pub kind-over : 2 < m .kind → 7 ≡ first-number validity
+  pub kind-over : 2 < m .kind → 7 ≡ first-number (valid-cases h m)
   kind-over l = number-7 (omega arith) (omega arith)
 
   module _ (low : 1 ≤ m .kind) (high : m .kind ≤ 2) where
-    seven : first-number validity ≡ first-number ((8, refused-8 h m) ∷ (9, refused-9 (m .stamp)) ∷ [])
+    seven : first-number (valid-cases h m) ≡ first-number ((8, refused-8 h m) ∷ (9, refused-9 (m .stamp)) ∷ (14, refused-14 m) ∷ [])
     seven = first-skip 7 (refused-7 m) _ (valid-kind h m low high)
 
-    pub operator-over : h .operators ≤ m .operator → 8 ≡ first-number validity
+    pub operator-over : h .operators ≤ m .operator → 8 ≡ first-number (valid-cases h m)
     operator-over l = sym (seven ∙ first-here 8 (refused-8 h m) _ (or-left (leb (h .operators) (m .operator)) (leb (h .rides) (m .ride)) (le→leb (h .operators) (m .operator) l)))
 
-    pub ride-over : h .rides ≤ m .ride → 8 ≡ first-number validity
+    pub ride-over : h .rides ≤ m .ride → 8 ≡ first-number (valid-cases h m)
     ride-over l = sym (seven ∙ first-here 8 (refused-8 h m) _ (or-right (leb (h .operators) (m .operator)) (leb (h .rides) (m .ride)) (le→leb (h .rides) (m .ride) l)))
 
     module _ (o : m .operator < h .operators) (r : m .ride < h .rides) where
-      eight : first-number validity ≡ first-number ((9, refused-9 (m .stamp)) ∷ [])
+      eight : first-number (valid-cases h m) ≡ first-number ((9, refused-9 (m .stamp)) ∷ (14, refused-14 m) ∷ [])
       eight = seven ∙ first-skip 8 (refused-8 h m) _ (valid-pair h m o r)
 
-      pub stamp-zero : m .stamp ≡ 0 → 9 ≡ first-number validity
-      stamp-zero e = sym (eight ∙ first-here 9 (refused-9 (m .stamp)) [] (subst T (sym (eq-eqb (m .stamp) 0 e)) tt))
+      pub stamp-zero : m .stamp ≡ 0 → 9 ≡ first-number (valid-cases h m)
+      stamp-zero e = sym (eight ∙ first-here 9 (refused-9 (m .stamp)) _ (subst T (sym (eq-eqb (m .stamp) 0 e)) tt))
 
-      pub all-valid : 1 ≤ m .stamp → 0 ≡ first-number validity
-      all-valid l = sym (eight ∙ first-skip 9 (refused-9 (m .stamp)) [] (valid-stamp h m l) ∙ first-nil)
+      pub revision-over : 1 ≤ m .stamp → 255 < m .revision → 14 ≡ first-number (valid-cases h m)
+      revision-over s l = sym (eight ∙ first-skip 9 (refused-9 (m .stamp)) _ (valid-stamp h m s) ∙ first-here 14 (refused-14 m) [] (lt-less 255 (m .revision) l))
 
-  pub none-valid : first-number validity ≡ 0 → Valid h m
-  none-valid e =
-      let n7 = first-none 6 (refused-7 m) _ e in
-      let n8 = first-none 7 (refused-8 h m) _ (n7 .1) in
-      tests-valid h m (n7 .0) (n8 .0) (first-none 8 (refused-9 (m .stamp)) [] (n8 .1) .0)
-
--- ---- 7 to 10, and all of a message's numbers
+-- ---- all of a message's numbers
 
 module _ (b : Board) (m : Message) where
-  positive-9 : Positive (validity (b .head) m)
-  positive-9 = (omega arith, (omega arith, (omega arith, tt)))
-
-  module _ (j : ℕ) (f : j ≡ first-number (validity (b .head) m)) where
+  module _ (j : ℕ) (f : j ≡ first-number (valid-cases (b .head) m)) where
     pub entry-invalid : j ≢ 0 → j ≡ first-number (message-cases b m)
-    entry-invalid n = f ∙ sym (first-front ((10, refused-10 b m) ∷ []) (validity (b .head) m) positive-9 (λ y. n (f ∙ y)))
+    entry-invalid n = f ∙ sym (first-front ((10, refused-10 b m) ∷ []) (valid-cases (b .head) m) (positive-valid (b .head) m) (λ y. n (f ∙ y)))
 
     module _ (y : j ≡ 0) where
       last-test : first-number ((10, refused-10 b m) ∷ []) ≡ first-number (message-cases b m)
-      last-test = sym (first-behind ((10, refused-10 b m) ∷ []) (validity (b .head) m) positive-9 (sym f ∙ y))
+      last-test = sym (first-behind ((10, refused-10 b m) ∷ []) (valid-cases (b .head) m) (positive-valid (b .head) m) (sym f ∙ y))
 
       pub entry-10 : refused-10 b m ≡ true → 10 ≡ first-number (message-cases b m)
       entry-10 t = sym (first-here 10 (refused-10 b m) [] (subst T (sym t) tt)) ∙ last-test

@@ -11,10 +11,10 @@ use Rattle.model.specs.Message.{board-message}
 use Rattle.model.proofs.Taken.{message-refused}
 use Rattle.taking.specs.Deliver.{outcome-of}
 
-module _ (h : Head) (m : Message) (operators rides stamps index : List ℕ) where
+module _ (h : Head) (m : Message) (operators rides stamps revisions index : List ℕ) where
   abbrev board : Board
-  board = lent h operators rides stamps index
+  board = lent h operators rides stamps revisions index
 
-  pub deliver-refused : (k : ℕ) → k ≡ message-refusal board m → k ≢ 0 → outcome-of h (record { code = k; differ = 0; pairs = h .pairs }) operators rides stamps index ≡ board-message board m
+  pub deliver-refused : (k : ℕ) → k ≡ message-refusal board m → k ≢ 0 → outcome-of (record { code = k; differ = 0; pairs = h .pairs }) board ≡ board-message board m
   deliver-refused zero e n = absurd (n refl)
   deliver-refused (suc k) e n = sym (message-refused board m k (sym e))

@@ -1,6 +1,8 @@
 -- `message_refusals::valid_number` meets its contract. Assumes nothing.
+use mathlib.Core.Path.{sym}
 use native.Mathlib.Omega.{arith}
-use Rattle.message_refusals.proofs.Message.{kind-zero, kind-over, operator-over, ride-over, stamp-zero, all-valid}
+use Rattle.model.proofs.Refusal.{none-valid}
+use Rattle.message_refusals.proofs.Message.{kind-zero, kind-over, operator-over, ride-over, stamp-zero, revision-over}
 use Rattle.message_refusals.proofs.valid_number.Statement.{statement}
 use Rattle.message_refusals.proofs.valid_number.Tie as tie
 
@@ -20,7 +22,11 @@ returns-5 : tie.Need-returns-5
 returns-5 c = let a = c .before .before .before .before .before .before .before .before .before .before .before .before .args in stamp-zero (a .head) (a .message) (omega arith) (omega arith) (omega arith) (omega arith) (omega arith)
 
 returns-6 : tie.Need-returns-6
-returns-6 c = let a = c .before .before .before .before .before .before .before .before .before .before .before .before .args in all-valid (a .head) (a .message) (omega arith) (omega arith) (omega arith) (omega arith) (omega arith)
+returns-6 c = let a = c .before .before .before .before .before .before .before .before .before .before .before .before .before .before .args in revision-over (a .head) (a .message) (omega arith) (omega arith) (omega arith) (omega arith) (omega arith) (omega arith)
+
+returns-7 : tie.Need-returns-7
+returns-7 c = let a = c .before .before .before .before .before .before .before .before .before .before .before .before .before .before .args in sym (none-valid (a .head) (a .message) (record { kind-low = omega arith; kind-high = omega arith; operator = omega arith; ride = omega arith; stamp = omega arith; revision = omega arith }))
 
 pub valid-number-spec : {M : Type 1} → statement M
-valid-number-spec = tie.close (tie.spec returns returns-2 returns-3 returns-4 returns-5 returns-6)
+valid-number-spec =
+    tie.close (tie.spec returns returns-2 returns-3 returns-4 returns-5 returns-6 returns-7)

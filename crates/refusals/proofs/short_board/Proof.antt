@@ -1,7 +1,7 @@
 -- `refusals::short_board` meets its contract: 3 of a board, part by part. Assumes nothing.
 use borrow.Author.Needs.{needs}
 use native.Mathlib.Omega.{arith}
-use Rattle.model.specs.Layout.{Operators, Rides, Stamps, Index}
+use Rattle.model.specs.Layout.{Operators, Rides, Stamps, Revisions, Index}
 use Rattle.model.proofs.Parts.{by-part}
 use Rattle.pairs.proofs.Place.{product-fits}
 use Rattle.refusals.proofs.Chain.{short-at, short-nowhere}
@@ -26,17 +26,20 @@ returns-2 c = short-at _ Rides (omega arith)
 returns-3 : tie.Need-returns-3
 returns-3 c = short-at _ Stamps (omega arith)
 
-add-if4 : tie.Need-add-if4
-add-if4 c = search needs
-
-mul-if4 : tie.Need-mul-if4
-mul-if4 c = let a = c .before .before .before .before .before .args in omega (arith, product-fits (a .head .operators) (a .head .rides) (omega arith) (omega arith), product-fits (a .head .rides) (a .head .rides) (omega arith) (omega arith))
-
 returns-4 : tie.Need-returns-4
-returns-4 c = short-at _ Index (omega arith)
+returns-4 c = short-at _ Revisions (omega arith)
+
+add-if5 : tie.Need-add-if5
+add-if5 c = search needs
+
+mul-if5 : tie.Need-mul-if5
+mul-if5 c = let a = c .before .before .before .before .before .before .args in omega (arith, product-fits (a .head .operators) (a .head .rides) (omega arith) (omega arith), product-fits (a .head .rides) (a .head .rides) (omega arith) (omega arith))
 
 returns-5 : tie.Need-returns-5
-returns-5 c = short-nowhere _ (by-part _ (omega arith) (omega arith) (omega arith) (omega arith))
+returns-5 c = short-at _ Index (omega arith)
+
+returns-6 : tie.Need-returns-6
+returns-6 c = short-nowhere _ (by-part _ (omega arith) (omega arith) (omega arith) (omega arith) (omega arith))
 
 pub short-board-spec : {M : Type 1} → statement M
 short-board-spec =
@@ -48,7 +51,8 @@ short-board-spec =
     returns
     returns-2
     returns-3
-    add-if4
-    mul-if4
     returns-4
-    returns-5)
+    add-if5
+    mul-if5
+    returns-5
+    returns-6)
