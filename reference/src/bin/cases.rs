@@ -481,7 +481,7 @@ fn peel_case(random: &mut Random) -> Call {
     draft.peel(alpha, beta, steps, Part::given(marks_len, &words, random.word()))
 }
 
-/// A revision. Most are few, so that many are equal; some are near 255, or far above it.
+/// A revision. Most are small, so that many are equal; some are near 255, or far above it.
 fn some_revision(random: &mut Random) -> u16 {
     match random.below(20) {
         0 => random.pick(&[254, 255, 256, 257]),
