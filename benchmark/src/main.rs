@@ -171,7 +171,7 @@ fn run(case: &Case) -> Vec<Line> {
     let mut tables = Tables::new(n, m, &case.pairs);
     let places = n as usize * m as usize;
     let (mut operators, mut rides) = (tables.operator_numbers.clone(), tables.ride_numbers.clone());
-    let (mut stamps, mut revisions, mut index) = (vec![0; places], vec![0; places], vec![0; tables.index.len()]);
+    let (mut stamps, mut revisions, mut index) = (vec![0; places], vec![9; places], vec![0; tables.index.len()]);
     let head = board::Head { operators: n, rides: m, pairs: case.pairs.len() as u16 };
     let mut lists = Lists::build(n, m, &case.pairs, START);
     let times = measure(

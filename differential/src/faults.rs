@@ -287,7 +287,7 @@ impl Board for Faulty {
             Some(code) => Answer { code, differ: 0 },
             None => Reference.message(head, parts, message),
         };
-        let place = pair_place(*head, message);
+        let place = head.place(message.operator, message.ride);
         match (self.0, answer.code) {
             (Fault::MessageRevisionKept, 0) => parts.revisions[place] = before.revisions[place],
             (Fault::MessageRevisionNextPlace, 0) => {
@@ -337,23 +337,18 @@ fn lengthened(head: Head, mut parts: Vectors) -> Vectors {
     parts
 }
 
-/// Where the stamp and the revision of a message's pair are.
-fn pair_place(head: Head, one: Message) -> usize {
-    one.operator as usize * head.rides as usize + one.ride as usize
-}
-
 /// The last of a message's pair.
 fn last(head: Head, parts: &Slices, one: Message) -> Message {
     let pairs = parts.operators.iter().zip(parts.rides.iter()).take(head.pairs as usize);
     let is_listed = pairs.into_iter().any(|pair| pair == (&one.operator, &one.ride));
-    let place = pair_place(head, one);
+    let place = head.place(one.operator, one.ride);
     let kind = if is_listed { GRANT } else { WITHDRAWAL };
     Message { kind, revision: parts.revisions[place], stamp: parts.stamps[place], ..one }
 }
 
 /// Takes a message that none of 1 to 9 applies to, whatever its revision and its pair's last are.
 fn take(head: &mut Head, parts: &mut Slices, one: Message) -> Answer {
-    let place = pair_place(*head, one);
+    let place = head.place(one.operator, one.ride);
     parts.stamps[place] = 1;
     let answer = Reference.message(head, parts, Message { revision: 0, stamp: u32::MAX, ..one });
     (parts.stamps[place], parts.revisions[place]) = (one.stamp, one.revision);
@@ -472,11 +467,11 @@ impl Faulty {
             }
             Fault::PreviewStampsKept => {
                 spare.stamps.copy_from_slice(&before.1.stamps);
-                spare.stamps[pair_place(head, message)] = message.stamp;
+                spare.stamps[head.place(message.operator, message.ride)] = message.stamp;
             }
             Fault::PreviewRevisionsKept => {
                 spare.revisions.copy_from_slice(&before.1.revisions);
-                spare.revisions[pair_place(head, message)] = message.revision;
+                spare.revisions[head.place(message.operator, message.ride)] = message.revision;
             }
             Fault::PreviewRevisionsBefore => spare.revisions[..places].copy_from_slice(&parts.revisions[..places]),
             Fault::PreviewIndexKept => spare.index.copy_from_slice(&before.1.index),

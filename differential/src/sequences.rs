@@ -224,7 +224,7 @@ fn revision(numbers: &mut Numbers) -> u16 {
 /// The stamp and the revision that a board has of a pair. Those of a build's grant where there is no such place, or the
 /// pair was never heard of.
 fn last(lent: &Lent, operator: u16, ride: u16) -> (u32, u16) {
-    let place = operator as usize * lent.head.rides as usize + ride as usize;
+    let place = lent.head.place(operator, ride);
     match (lent.parts.stamps.get(place), lent.parts.revisions.get(place)) {
         (Some(&stamp), Some(&revision)) if stamp != 0 => (stamp, revision),
         _ => (START, 0),
@@ -430,7 +430,7 @@ fn worked_out(built: &Lent, book: &Book) -> Lent {
     reference::build(head, &mut parts.lend(), START);
     parts.stamps[..head.places()].fill(0);
     for ((operator, ride), (stamp, revision, _)) in book {
-        let place = *operator as usize * head.rides as usize + *ride as usize;
+        let place = head.place(*operator, *ride);
         (parts.stamps[place], parts.revisions[place]) = (*stamp, *revision);
     }
     Lent { head, parts }

@@ -3,8 +3,13 @@
 use crate::samples::{Pair, PAIRS};
 use crate::{Head, Message, GRANT, WITHDRAWAL};
 
-/// The starting stamp.
+/// The board's head, and its starting stamp.
+const BUILT: Head = head(4, 3, 7);
 pub const START: u32 = 5;
+
+const fn head(operators: u16, rides: u16, pairs: u16) -> Head {
+    Head { operators, rides, pairs }
+}
 
 /// What decides which of two messages for one pair is later: kind, revision and stamp.
 pub type Entry = (u16, u16, u32);
@@ -23,7 +28,7 @@ pub struct Corrections {
 impl Corrections {
     /// Where the pair's stamp and revision are.
     pub fn place(&self) -> usize {
-        self.pair.0 as usize * 3 + self.pair.1 as usize
+        BUILT.place(self.pair.0, self.pair.1)
     }
 
     pub fn messages(&self) -> Vec<Message> {
@@ -137,16 +142,12 @@ pub const BESIDE_14: &[(Message, u16)] = &[
 /// A head and so many places of the revisions, and the number that a build, a message and a list get.
 pub type Short = (Head, usize, u16);
 
-const fn head(operators: u16, rides: u16, pairs: u16) -> Head {
-    Head { operators, rides, pairs }
-}
-
 /// With the board's pair arrays, and every other part long enough.
 pub const SHORT_REVISIONS: &[Short] = &[
     // 4 operators and 3 rides need 4 × 3 places.
-    (head(4, 3, 7), 12, 0),
-    (head(4, 3, 7), 11, 3),
-    (head(4, 3, 7), 0, 3),
+    (BUILT, 12, 0),
+    (BUILT, 11, 3),
+    (BUILT, 0, 3),
     // 1 and 2 come before 3, and 4 after it.
     (head(201, 3, 7), 11, 1),
     (head(4, 61, 7), 11, 2),

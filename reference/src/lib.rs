@@ -130,6 +130,11 @@ impl Head {
         self.operators as usize * self.rides as usize
     }
 
+    /// Where the stamp and the revision of a pair are.
+    pub fn place(self, operator: u16, ride: u16) -> usize {
+        operator as usize * self.rides as usize + ride as usize
+    }
+
     /// The words of one index row, and the marks: an operator or a ride each.
     pub fn nodes(self) -> usize {
         self.operators as usize + self.rides as usize
@@ -301,16 +306,11 @@ pub fn build(head: Head, parts: &mut Slices, start: u32) -> u16 {
     write_pairs(head, &pairs, parts);
     parts.stamps[..head.places()].fill(0);
     for &(operator, ride) in &pairs {
-        parts.stamps[pair_place(head, operator, ride)] = start;
+        parts.stamps[head.place(operator, ride)] = start;
     }
     parts.revisions[..head.places()].fill(0);
     parts.index[..head.words()].copy_from_slice(&index_of(head, &pairs));
     0
-}
-
-/// Where the stamp and the revision of a pair are.
-fn pair_place(head: Head, operator: u16, ride: u16) -> usize {
-    operator as usize * head.rides as usize + ride as usize
 }
 
 /// Marks by the words of the index, whatever they are. Documents 01 and 02: with alpha 0 all operators are in, and a
@@ -406,7 +406,7 @@ fn board_refusal(head: Head, parts: &Slices, others_short: bool) -> u16 {
         (3, &|| is_short(head, parts) || others_short),
         (4, &|| head.pairs as usize > head.places()),
         (5, &|| disordered(head, operators, rides)),
-        (6, &|| listed(head, operators, rides).iter().any(|&(o, r)| stamps[pair_place(head, o, r)] == 0)),
+        (6, &|| listed(head, operators, rides).iter().any(|&(o, r)| stamps[head.place(o, r)] == 0)),
     ])
 }
 
@@ -414,7 +414,7 @@ pub fn message(head: &mut Head, parts: &mut Slices, message: Message) -> Answer 
     let sizes = *head;
     let refusal = board_refusal(sizes, parts, false);
     let pair = (message.operator, message.ride);
-    let place = pair_place(sizes, message.operator, message.ride);
+    let place = sizes.place(message.operator, message.ride);
     let code = first_of(&[
         (refusal, &|| refusal != 0),
         (7, &|| message.kind != GRANT && message.kind != WITHDRAWAL),

@@ -355,14 +355,14 @@ type Latest = (u32, u16, u16);
 /// The book of a table: for each pair its latest entry.
 fn booked(head: Head, pairs: &[(u16, u16)], start: u32) -> Vec<Latest> {
     let mut book = vec![(0, 0, 0); head.places()];
-    pairs.iter().for_each(|&(operator, ride)| book[pair_place(head, operator, ride)] = (start, 0, GRANT));
+    pairs.iter().for_each(|&(operator, ride)| book[head.place(operator, ride)] = (start, 0, GRANT));
     book
 }
 
 /// Enters a message that is in range, where it is valid.
 fn enter(book: &mut [Latest], head: Head, one: Message) {
     if one.revision <= 255 {
-        let latest = &mut book[pair_place(head, one.operator, one.ride)];
+        let latest = &mut book[head.place(one.operator, one.ride)];
         *latest = (one.stamp, one.revision, one.kind).max(*latest);
     }
 }
@@ -371,7 +371,7 @@ fn enter(book: &mut [Latest], head: Head, one: Message) {
 fn worked_out(head: Head, book: &[Latest]) -> Store {
     let listed: Vec<(u16, u16)> = (0..head.operators)
         .flat_map(|operator| (0..head.rides).map(move |ride| (operator, ride)))
-        .filter(|&(operator, ride)| book[pair_place(head, operator, ride)].2 == GRANT)
+        .filter(|&(operator, ride)| book[head.place(operator, ride)].2 == GRANT)
         .collect();
     let mut board = Store::new(head.operators, head.rides, &listed);
     assert_eq!(board.build(1), 0);

@@ -216,14 +216,13 @@ impl<'m> Board<'m> {
 
     /// Takes one message; the number of index words that differ before and after.
     pub fn message(&mut self, one: Message) -> Result<u16, Refusal> {
-        let parts = &mut self.parts;
-        message(&mut self.head, parts.operators, parts.rides, parts.stamps, parts.revisions, parts.index, one)
+        let Parts { operators, rides, stamps, revisions, index } = &mut self.parts;
+        message(&mut self.head, operators, rides, stamps, revisions, index, one)
     }
 
     /// Takes a list of messages in order, over an answer list at least as long.
     pub fn messages<'a>(&mut self, list: &[Message], answers: &'a mut [u16]) -> Result<Answers<'a>, Refusal> {
-        let parts = &mut self.parts;
-        let Parts { operators, rides, stamps, revisions, index } = parts;
+        let Parts { operators, rides, stamps, revisions, index } = &mut self.parts;
         messages(&mut self.head, operators, rides, stamps, revisions, index, list, answers)
     }
 

@@ -553,7 +553,7 @@ fn damage_board(random: &mut Random, draft: &mut Draft) {
     let Vectors { operators, rides, stamps, .. } = &mut draft.words;
     if !operators.is_empty() && operators.iter().all(|operator| *operator < 200) {
         let place = random.below(operators.len());
-        let at = operators[place] as usize * draft.head.rides as usize + rides[place] as usize;
+        let at = draft.head.place(operators[place], rides[place]);
         if at < stamps.len() {
             stamps[at] = 0;
         }

@@ -1,8 +1,8 @@
--- `builds::build` meets its contract: it refuses, or stamps the pairs, fills the index and zeroes the tails. Assumes nothing.
+-- `builds::build` meets its contract: it refuses, or stamps the pairs, zeroes the revisions, fills the index and zeroes the tails. Assumes nothing.
 use borrow.Author.Needs.{needs}
-use mathlib.Core.Path.{_≡_, sym, _∙_}
+use mathlib.Core.Path.{_≡_, refl, sym, _∙_}
 use native.Mathlib.Omega.{arith}
-use Rattle.model.specs.Layout.{Operators, Rides, Stamps, Index}
+use Rattle.model.specs.Layout.{Operators, Rides, Stamps, Revisions, Index}
 use Rattle.pairs.proofs.Place.{product-small}
 use Rattle.builds.proofs.Builds.{build-refused, build-table, build-fits, build-pairs, build-done}
 use Rattle.builds.proofs.build.Statement.{statement}
@@ -12,20 +12,23 @@ build-number-requires : tie.Need-build-number-requires
 build-number-requires c κs = search needs
 
 same-length : tie.Need-same-length
-same-length c = search needs
+same-length c = refl
 
 same-length-2 : tie.Need-same-length-2
-same-length-2 c = search needs
+same-length-2 c = refl
 
 same-length-3 : tie.Need-same-length-3
-same-length-3 c = search needs
+same-length-3 c = refl
 
 same-length-4 : tie.Need-same-length-4
-same-length-4 c = search needs
+same-length-4 c = refl
+
+same-length-5 : tie.Need-same-length-5
+same-length-5 c = refl
 
 returns : tie.Need-returns
-returns c = let a = c .before .before .before .before .before .before .before .before .before .before .args in
-    build-refused (a .head) (a .operators .now) (a .rides .now) (a .stamps .now) (a .index .now) (a .start) _ (c .before .build-number .ensures) (omega arith)
+returns c = let a = c .before .before .before .before .before .before .before .before .before .before .before .before .args in
+    build-refused (a .head) (a .operators .now) (a .rides .now) (a .stamps .now) (a .revisions .now) (a .index .now) (a .start) _ (c .before .build-number .ensures) (omega arith)
 
 cast-places : tie.Need-cast-places
 cast-places c = search needs
@@ -34,56 +37,65 @@ cast-places-2 : tie.Need-cast-places-2
 cast-places-2 c = search needs
 
 mul-places : tie.Need-mul-places
-mul-places c = let a = c .before .before .before .before .before .before .before .before .before .before .before .before .args in
+mul-places c = let a = c .before .before .before .before .before .before .before .before .before .before .before .before .before .before .args in
     let q = c .before .before .before .build-number in
     let none = sym (q .ensures) ∙ (let z : q .result ≡ 0 = omega arith in z) in
-    let t = build-table (a .head) (a .operators .now) (a .rides .now) (a .stamps .now) (a .index .now) (a .start) none in
+    let t = build-table (a .head) (a .operators .now) (a .rides .now) (a .stamps .now) (a .revisions .now) (a .index .now) (a .start) none in
     omega (arith, product-small (a .head .operators) (a .head .rides) (t .few-operators) (t .few-rides))
 
 cast-pairs : tie.Need-cast-pairs
 cast-pairs c = search needs
 
 fill-requires : tie.Need-fill-requires
-fill-requires c κs = let a = c .before .before .before .before .before .before .before .before .before .before .before .before .before .before .before .before .args in
+fill-requires c κs = let a = c .before .before .before .before .before .before .before .before .before .before .before .before .before .before .before .before .before .before .args in
     let q = c .before .before .before .before .before .before .before .build-number in
     let none = sym (q .ensures) ∙ (let z : q .result ≡ 0 = omega arith in z) in
-    (build-pairs (a .head) (a .operators .now) (a .rides .now) (a .stamps .now) (a .index .now) (a .start) none, build-table (a .head) (a .operators .now) (a .rides .now) (a .stamps .now) (a .index .now) (a .start) none .long Stamps)
-
-fill-index-requires : tie.Need-fill-index-requires
-fill-index-requires c κs = let a = c .before .before .before .before .before .before .before .before .before .before .before .before .before .before .before .before .before .before .before .before .before .before .args in
-    let q = c .before .before .before .before .before .before .before .before .before .before .before .before .before .build-number in
-    let none = sym (q .ensures) ∙ (let z : q .result ≡ 0 = omega arith in z) in
-    (build-pairs (a .head) (a .operators .now) (a .rides .now) (a .stamps .now) (a .index .now) (a .start) none, build-table (a .head) (a .operators .now) (a .rides .now) (a .stamps .now) (a .index .now) (a .start) none .long Index)
+    (build-pairs (a .head) (a .operators .now) (a .rides .now) (a .stamps .now) (a .revisions .now) (a .index .now) (a .start) none, build-table (a .head) (a .operators .now) (a .rides .now) (a .stamps .now) (a .revisions .now) (a .index .now) (a .start) none .long Stamps)
 
 fill-requires-2 : tie.Need-fill-requires-2
-fill-requires-2 c κs = let a = c .before .before .before .before .before .before .before .before .before .before .before .before .before .before .before .before .before .before .before .before .before .before .before .before .before .before .args in
+fill-requires-2 c κs = let a = c .before .before .before .before .before .before .before .before .before .before .before .before .before .before .before .before .before .before .before .before .before .before .args in
+    let q = c .before .before .before .before .before .before .before .before .before .before .before .build-number in
+    let none = sym (q .ensures) ∙ (let z : q .result ≡ 0 = omega arith in z) in
+    (omega arith, build-table (a .head) (a .operators .now) (a .rides .now) (a .stamps .now) (a .revisions .now) (a .index .now) (a .start) none .long Revisions)
+
+fill-index-requires : tie.Need-fill-index-requires
+fill-index-requires c κs = let a = c .before .before .before .before .before .before .before .before .before .before .before .before .before .before .before .before .before .before .before .before .before .before .before .before .before .before .before .before .args in
     let q = c .before .before .before .before .before .before .before .before .before .before .before .before .before .before .before .before .before .build-number in
     let none = sym (q .ensures) ∙ (let z : q .result ≡ 0 = omega arith in z) in
-    (build-fits (a .head) (a .operators .now) (a .rides .now) (a .stamps .now) (a .index .now) (a .start) none, build-table (a .head) (a .operators .now) (a .rides .now) (a .stamps .now) (a .index .now) (a .start) none .long Operators)
+    (build-pairs (a .head) (a .operators .now) (a .rides .now) (a .stamps .now) (a .revisions .now) (a .index .now) (a .start) none, build-table (a .head) (a .operators .now) (a .rides .now) (a .stamps .now) (a .revisions .now) (a .index .now) (a .start) none .long Index)
 
 fill-requires-3 : tie.Need-fill-requires-3
-fill-requires-3 c κs = let a = c .before .before .before .before .before .before .before .before .before .before .before .before .before .before .before .before .before .before .before .before .before .before .before .before .before .before .before .before .before .before .args in
+fill-requires-3 c κs = let a = c .before .before .before .before .before .before .before .before .before .before .before .before .before .before .before .before .before .before .before .before .before .before .before .before .before .before .before .before .before .before .before .before .args in
     let q = c .before .before .before .before .before .before .before .before .before .before .before .before .before .before .before .before .before .before .before .before .before .build-number in
     let none = sym (q .ensures) ∙ (let z : q .result ≡ 0 = omega arith in z) in
-    (build-fits (a .head) (a .operators .now) (a .rides .now) (a .stamps .now) (a .index .now) (a .start) none, build-table (a .head) (a .operators .now) (a .rides .now) (a .stamps .now) (a .index .now) (a .start) none .long Rides)
+    (build-fits (a .head) (a .operators .now) (a .rides .now) (a .stamps .now) (a .revisions .now) (a .index .now) (a .start) none, build-table (a .head) (a .operators .now) (a .rides .now) (a .stamps .now) (a .revisions .now) (a .index .now) (a .start) none .long Operators)
 
-same-length-5 : tie.Need-same-length-5
-same-length-5 c = search needs
+fill-requires-4 : tie.Need-fill-requires-4
+fill-requires-4 c κs = let a = c .before .before .before .before .before .before .before .before .before .before .before .before .before .before .before .before .before .before .before .before .before .before .before .before .before .before .before .before .before .before .before .before .before .before .before .before .args in
+    let q = c .before .before .before .before .before .before .before .before .before .before .before .before .before .before .before .before .before .before .before .before .before .before .before .before .before .build-number in
+    let none = sym (q .ensures) ∙ (let z : q .result ≡ 0 = omega (arith, c .before .before .before .before .before .before .before .before .before .before .before .before .before .before .before .before .before .before .before .before .before .before .before .before .if1 .left) in z) in
+    (build-fits (a .head) (a .operators .now) (a .rides .now) (a .stamps .now) (a .revisions .now) (a .index .now) (a .start) none, build-table (a .head) (a .operators .now) (a .rides .now) (a .stamps .now) (a .revisions .now) (a .index .now) (a .start) none .long Rides)
 
 same-length-6 : tie.Need-same-length-6
-same-length-6 c = search needs
+same-length-6 c = c .before .before .before .before .before .operators .given
 
 same-length-7 : tie.Need-same-length-7
-same-length-7 c = search needs
+same-length-7 c = c .before .rides .given
 
 same-length-8 : tie.Need-same-length-8
-same-length-8 c = search needs
+same-length-8 c = c .before .before .before .before .before .before .before .before .before .before .before .before .before .before .before .before .before .before .before .stamps .given
+
+same-length-9 : tie.Need-same-length-9
+same-length-9 c = c .before .before .before .before .before .before .before .before .before .before .before .before .before .before .before .revisions .given
+
+same-length-10 : tie.Need-same-length-10
+same-length-10 c = c .before .before .before .before .before .before .before .before .before .index .given
 
 returns-2 : tie.Need-returns-2
-returns-2 c = let a = c .before .before .before .before .before .before .before .before .before .before .before .before .before .before .before .before .before .before .before .before .before .before .before .before .before .before .before .before .before .before .before .before .before .args in
-    let q = c .before .before .before .before .before .before .before .before .before .before .before .before .before .before .before .before .before .before .before .before .before .before .before .before .build-number in
-    let none = sym (q .ensures) ∙ (let z : q .result ≡ 0 = omega (arith, c .before .before .before .before .before .before .before .before .before .before .before .before .before .before .before .before .before .before .before .before .before .before .before .if1 .left) in z) in
-    build-done (a .head) (a .operators .now) (a .rides .now) (a .stamps .now) (a .index .now) (a .start) none _ _ _ _ (c .before .before .before .before .before .before .fill2 .ensures) (c .before .before .fill3 .ensures) (c .before .before .before .before .before .before .before .before .before .before .before .before .before .before .before .before .fill .ensures) (c .before .before .before .before .before .before .before .before .before .before .fill-index .ensures .0)
+returns-2 c = let a = c .before .before .before .before .before .before .before .before .before .before .before .before .before .before .before .before .before .before .before .before .before .before .before .before .before .before .before .before .before .before .before .before .before .before .before .before .before .before .before .args in
+    let q = c .before .before .before .before .before .before .before .before .before .before .before .before .before .before .before .before .before .before .before .before .before .before .before .before .before .before .before .before .build-number in
+    let none = sym (q .ensures) ∙ (let z : q .result ≡ 0 = omega (arith, c .before .before .before .before .before .before .before .before .before .before .before .before .before .before .before .before .before .before .before .before .before .before .before .before .before .before .before .if1 .left) in z) in
+    build-done (a .head) (a .operators .now) (a .rides .now) (a .stamps .now) (a .revisions .now) (a .index .now) (a .start) none _ _ _ _ _ (c .before .before .before .before .before .before .fill3 .ensures) (c .before .before .fill4 .ensures) (c .before .before .before .before .before .before .before .before .before .before .before .before .before .before .before .before .before .before .before .before .fill .ensures) (c .before .before .before .before .before .before .before .before .before .before .before .before .before .before .before .before .fill2 .ensures) (c .before .before .before .before .before .before .before .before .before .before .fill-index .ensures .0)
 
 pub build-spec : {M : Type 1} → statement M
 build-spec =
@@ -94,17 +106,20 @@ build-spec =
     same-length-2
     same-length-3
     same-length-4
+    same-length-5
     returns
     cast-places
     cast-places-2
     mul-places
     cast-pairs
     fill-requires
-    fill-index-requires
     fill-requires-2
+    fill-index-requires
     fill-requires-3
-    same-length-5
+    fill-requires-4
     same-length-6
     same-length-7
     same-length-8
+    same-length-9
+    same-length-10
     returns-2)
