@@ -13,10 +13,11 @@ use lib.Seq.{drop-at, getD-set-same, getD-set-other}
 use Rattle.model.specs.declared.Message.{Message}
 use Rattle.model.specs.Count.{count, some}
 use Rattle.model.specs.Graph.{Graph, nodes, level, index-of}
-use Rattle.model.specs.Layout.{Operators, Rides, Stamps, Index, Parts, Board, index-places, places, over, onto, board-graph}
+use Rattle.model.specs.Layout.{Operators, Rides, Stamps, Revisions, Index, Parts, Board, index-places, places, over, onto, board-graph}
 use Rattle.model.specs.Contents.{Slot, Pair, Contents, slot, entry, put, contents, words, board-of}
 use Rattle.model.specs.Refusal.{refused-10, message-refusal, list-refusal}
 use Rattle.model.specs.Message.{MessageOutcome, board-after, board-message, ListOutcome, in-order}
+use Rattle.model.specs.Outcome.{listed-out}
 use Rattle.model.proofs.Count.{test-true, test-ext, some-holds, some-witness, length-rows}
 use Rattle.model.proofs.Parts.{by-part}
 use Rattle.model.proofs.Refusal.{Accepted, message-accepted, list-none, list-accepted}
@@ -30,7 +31,7 @@ use Rattle.lists.proofs.Once.{entered-taken, entered-refused}
 
 -- a board with its own index
 with-own : (b : Board) → with-index b (b .part Index) ≡ b
-with-own b = λ j. record { head = b .head; part = λ p. by-part (λ q. with-index b (b .part Index) .part q ≡ b .part q) refl refl refl refl p j }
+with-own b = λ j. record { head = b .head; part = λ p. by-part (λ q. with-index b (b .part Index) .part q ≡ b .part q) refl refl refl refl refl p j }
 
 module _ (b : Board) (index : List ℕ) where
   -- the contents don't look at the index
@@ -46,7 +47,7 @@ module _ (b : Board) (index : List ℕ) where
         table = record {
           few-operators = a .table .few-operators;
           few-rides = a .table .few-rides;
-          long = by-part (λ p. places (b .head) p ≤ length (with-index b index .part p)) (a .table .long Operators) (a .table .long Rides) (a .table .long Stamps) l;
+          long = by-part (λ p. places (b .head) p ≤ length (with-index b index .part p)) (a .table .long Operators) (a .table .long Rides) (a .table .long Stamps) (a .table .long Revisions) l;
           pairs = a .table .pairs;
         };
         stamped = a .stamped;
@@ -147,9 +148,6 @@ sizes-kept b m = go (message-refusal b m) refl
     go zero e = ap (λ (o : MessageOutcome). index-places (o .board .head)) (message-taken b m e)
     go (suc k) e = ap (λ (o : MessageOutcome). index-places (o .board .head)) (message-refused b m k e)
 
-abbrev outcome : Board → List ℕ → ListOutcome
-outcome b answers = record { code = 0; board = b; answers = answers }
-
 module _ (n : ℕ) (index : List ℕ) where
   module _ (b : Board) (m : Message) (at : ℕ) (answers : List ℕ) (a : Accepted b) (long : index-places (b .head) ≤ length index) where
     abbrev stale : Board
@@ -164,21 +162,21 @@ module _ (n : ℕ) (index : List ℕ) where
     same-code : board-message stale m .answer .code ≡ message-refusal b m
     same-code = message-code stale m ∙ refusal-with b index long a m
 
-    turned-on : (at + 1 ≡ n → ⊥) → turned n stale m at answers ≡ outcome (with-index next index) numbers
+    turned-on : (at + 1 ≡ n → ⊥) → turned n stale m at answers ≡ listed-out 0 (with-index next index) numbers
     unfolding turned
-    turned-on ne = rw (ne-eqb (at + 1) n ne, turned) (ap₂ outcome (entered-with b index long a m) (ap (set answers at) same-code))
+    turned-on ne = rw (ne-eqb (at + 1) n ne, turned) (ap₂ (listed-out 0) (entered-with b index long a m) (ap (set answers at) same-code))
 
-    turned-last : at + 1 ≡ n → at < length answers → b .part Index ≡ index-after (any at answers) b index → turned n stale m at answers ≡ outcome next numbers
+    turned-last : at + 1 ≡ n → at < length answers → b .part Index ≡ index-after (any at answers) b index → turned n stale m at answers ≡ listed-out 0 next numbers
     unfolding turned filled-index
     turned-last e room q =
         let last : index-after (any n numbers) next index ≡ next .part Index = ap (λ (k : ℕ). index-after (any k numbers) next index) (sym e) ∙ sym (next-index b m index answers at a room q) in
-        rw (eq-eqb (at + 1) n e, turned) (ap₂ (λ (x : Board) (l : List ℕ). outcome (finished n x l) l) (entered-with b index long a m) (ap (set answers at) same-code) ∙ ap (λ (l : List ℕ). outcome (with-index next l) numbers) last ∙ ap (λ (x : Board). outcome x numbers) (with-own next))
+        rw (eq-eqb (at + 1) n e, turned) (ap₂ (λ (x : Board) (l : List ℕ). listed-out 0 (finished n x l) l) (entered-with b index long a m) (ap (set answers at) same-code) ∙ ap (λ (l : List ℕ). listed-out 0 (with-index next l) numbers) last ∙ ap (λ (x : Board). listed-out 0 x numbers) (with-own next))
 
   once-from : (m : Message) (ms : List Message) (at : ℕ) (b : Board) (answers : List ℕ) → Accepted b → index-places (b .head) ≤ length index → at + suc (length ms) ≡ n → n ≤ length answers → b .part Index ≡ index-after (any at answers) b index →
       turns n (m ∷ ms) at (with-index b index) answers ≡ in-order (m ∷ ms) at b answers
   unfolding turns in-order
   once-from m [] at b answers a long e room q =
-      ap (λ (o : ListOutcome). outcome (o .board) (o .answers)) (turned-last b m at answers a long (omega arith) (omega arith) q) ∙ ap (λ (k : ℕ). outcome (board-message b m .board) (set answers at k)) (sym (message-code b m))
+      ap (λ (o : ListOutcome). listed-out 0 (o .board) (o .answers)) (turned-last b m at answers a long (omega arith) (omega arith) q) ∙ ap (λ (k : ℕ). listed-out 0 (board-message b m .board) (set answers at k)) (sym (message-code b m))
   once-from m (m′ ∷ ms) at b answers a long e room q =
       let next : Board = board-message b m .board in
       let l = set answers at (message-refusal b m) in

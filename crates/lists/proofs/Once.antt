@@ -12,13 +12,14 @@ use Rattle.model.specs.declared.Message.{Message}
 use Rattle.model.specs.Layout.{Index, Board, lent, index-places, onto, graph}
 use Rattle.model.specs.Contents.{Contents, slot, entry, put, board-of}
 use Rattle.model.specs.Refusal.{message-refusal, list-refusal}
-use Rattle.model.specs.Message.{board-after, board-message, ListOutcome}
+use Rattle.model.specs.Message.{board-after, board-message}
+use Rattle.model.specs.Outcome.{listed-out}
 use Rattle.model.proofs.Count.{by-test}
 use Rattle.model.proofs.Refusal.{Accepted, message-accepted, list-none}
 use Rattle.model.proofs.Taken.{message-code}
 use Rattle.pairs.specs.Accepted.{AcceptedPairs}
 use Rattle.entries.specs.Enter.{Room, with-pairs, EnteredValid}
-use Rattle.lists.specs.Once.{with-index, entered, finished, turned, turns-of, left-by}
+use Rattle.lists.specs.Once.{with-index, entered, finished, turned, turns-of}
 use Rattle.entries.proofs.Next.{room-of, says-same, next-pairs}
 use Rattle.endings.specs.Ending.{filled-index, index-turned}
 use Rattle.endings.proofs.Ending.{index-last, index-on}
@@ -44,15 +45,15 @@ module _ (b : Board) (m : Message) where
   unfolding entered
   entered-refused k e = rw (e, entered)
 
-module _ (h : Head) (m : Message) (operators rides stamps index : List ℕ) (n : ℕ) (answers : List ℕ) (none : list-refusal (lent h operators rides stamps index) n answers ≡ 0) where
+module _ (h : Head) (m : Message) (operators rides stamps revisions index : List ℕ) (n : ℕ) (answers : List ℕ) (none : list-refusal (lent h operators rides stamps revisions index) n answers ≡ 0) where
   abbrev board : Board
-  board = lent h operators rides stamps index
+  board = lent h operators rides stamps revisions index
 
   accepted : Accepted board
   accepted = list-none board n answers none .0
 
-  pub turn-room : Room h operators rides stamps
-  turn-room = room-of h operators rides stamps index accepted
+  pub turn-room : Room h operators rides stamps revisions
+  turn-room = room-of h operators rides stamps revisions index accepted
 
   pub turn-answers : n ≤ length answers
   turn-answers = list-none board n answers none .1
@@ -60,12 +61,12 @@ module _ (h : Head) (m : Message) (operators rides stamps index : List ℕ) (n :
   pub turn-index : index-places h ≤ length index
   turn-index = accepted .table .long Index
 
-  module _ (code count : ℕ) (operators′ rides′ stamps′ : List ℕ) (done : EnteredValid h m operators rides stamps code count operators′ rides′ stamps′) where
+  module _ (code count : ℕ) (operators′ rides′ stamps′ revisions′ : List ℕ) (done : EnteredValid h m operators rides stamps revisions code count operators′ rides′ stamps′ revisions′) where
     number : code ≡ message-refusal board m
     number = done .number index ∙ sym (message-accepted board m accepted)
 
     abbrev next-board : List ℕ → Board
-    next-board index′ = lent (with-pairs h count) operators′ rides′ stamps′ index′
+    next-board index′ = lent (with-pairs h count) operators′ rides′ stamps′ revisions′ index′
 
     -- the parts are those of the board once the message is entered
     entered-is : next-board index ≡ entered board m
@@ -75,18 +76,18 @@ module _ (h : Head) (m : Message) (operators rides stamps index : List ℕ) (n :
         go : (k : ℕ) → code ≡ k → next-board index ≡ entered board m
         go zero e =
             let w = done .taken e in
-            (λ j. lent (with-pairs h (w .pairs j)) (w .operator-words j) (w .ride-words j) (w .stamp-words j) index) ∙
-            ap (λ (s : Contents). with-index (onto (board-of h (put s (slot m) (entry m))) (board .part)) index) (says-same h m operators rides stamps index) ∙
+            (λ j. lent (with-pairs h (w .pairs j)) (w .operator-words j) (w .ride-words j) (w .stamp-words j) (w .revision-words j) index) ∙
+            ap (λ (s : Contents). with-index (onto (board-of h (put s (slot m) (entry m))) (board .part)) index) (says-same h m operators rides stamps revisions index) ∙
             sym (entered-taken board m (sym number ∙ e))
         go (suc k) e =
             let w = done .kept (λ z. let y : ⊥ = omega (arith, e) in y) in
-            (λ j. lent (with-pairs h (w .0 j)) (w .1 j) (w .2 j) (w .3 j) index) ∙ sym (entered-refused board m k (sym number ∙ e))
+            (λ j. lent (with-pairs h (w .0 j)) (w .1 j) (w .2 j) (w .3 j) (w .4 j) index) ∙ sym (entered-refused board m k (sym number ∙ e))
 
     pub turn-pairs : AcceptedPairs (with-pairs h count) operators′ rides′
     turn-pairs = go code refl
       where
         go : (k : ℕ) → code ≡ k → AcceptedPairs (with-pairs h count) operators′ rides′
-        go zero e = next-pairs h m operators rides stamps index count operators′ rides′ stamps′ (done .taken e) (turn-room .pairs .few-operators) (turn-room .pairs .few-rides)
+        go zero e = next-pairs h m operators rides stamps revisions index count operators′ rides′ stamps′ revisions′ (done .taken e) (turn-room .pairs .few-operators) (turn-room .pairs .few-rides)
         go (suc k) e =
             let w = done .kept (λ z. let y : ⊥ = omega (arith, e) in y) in
             subst₃ (λ (x : ℕ) (y z : List ℕ). AcceptedPairs (with-pairs h x) y z) (sym (w .0)) (sym (w .1)) (sym (w .2)) (turn-room .pairs)
@@ -95,27 +96,24 @@ module _ (h : Head) (m : Message) (operators rides stamps index : List ℕ) (n :
       abbrev numbers : ℕ → List ℕ
       numbers k = set answers at k
 
-      abbrev outcome : Board → List ℕ → ListOutcome
-      outcome b l = record { code = 0; board = b; answers = l }
-
       same-numbers : numbers code ≡ numbers (board-message board m .answer .code)
       same-numbers = ap numbers (number ∙ sym (message-code board m))
 
-      turn-on : at + 1 ≢ n → left-by (with-pairs h count) operators′ rides′ stamps′ index (numbers code) ≡ turned n board m at answers
+      turn-on : at + 1 ≢ n → listed-out 0 (next-board index) (numbers code) ≡ turned n board m at answers
       unfolding turned
-      turn-on ne = ap₂ outcome entered-is same-numbers ∙ rw (ne-eqb (at + 1) n ne, turned)
+      turn-on ne = ap₂ (listed-out 0) entered-is same-numbers ∙ rw (ne-eqb (at + 1) n ne, turned)
 
-      turn-last : at + 1 ≡ n → (index′ : List ℕ) → index′ ≡ filled-index n (graph (with-pairs h count) operators′ rides′) index (numbers code) → left-by (with-pairs h count) operators′ rides′ stamps′ index′ (numbers code) ≡ turned n board m at answers
+      turn-last : at + 1 ≡ n → (index′ : List ℕ) → index′ ≡ filled-index n (graph (with-pairs h count) operators′ rides′) index (numbers code) → listed-out 0 (next-board index′) (numbers code) ≡ turned n board m at answers
       unfolding turned
       turn-last e index′ i =
-          ap (λ (x : List ℕ). outcome (next-board x) (numbers code)) i ∙
-          ap₂ (λ (b : Board) (l : List ℕ). outcome (finished n b l) l) entered-is same-numbers ∙
+          ap (λ (x : List ℕ). listed-out 0 (next-board x) (numbers code)) i ∙
+          ap₂ (λ (b : Board) (l : List ℕ). listed-out 0 (finished n b l) l) entered-is same-numbers ∙
           rw (eq-eqb (at + 1) n e, turned)
 
-      pub turn-done : (index′ : List ℕ) → index′ ≡ index-turned at n (graph (with-pairs h count) operators′ rides′) index (numbers code) → left-by (with-pairs h count) operators′ rides′ stamps′ index′ (numbers code) ≡ turned n board m at answers
+      pub turn-done : (index′ : List ℕ) → index′ ≡ index-turned at n (graph (with-pairs h count) operators′ rides′) index (numbers code) → listed-out 0 (next-board index′) (numbers code) ≡ turned n board m at answers
       turn-done index′ i =
           by-test (eqb (at + 1) n)
           (λ t. let e = eqb→eq (at + 1) n t in turn-last e index′ (i ∙ index-last at n _ _ _ e))
           (λ f.
           let ne : at + 1 ≢ n = λ e. f (subst T (sym (eq-eqb (at + 1) n e)) tt) in
-          ap (λ (x : List ℕ). outcome (next-board x) (numbers code)) (i ∙ index-on at n _ _ _ ne) ∙ turn-on ne)
+          ap (λ (x : List ℕ). listed-out 0 (next-board x) (numbers code)) (i ∙ index-on at n _ _ _ ne) ∙ turn-on ne)

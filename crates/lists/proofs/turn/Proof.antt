@@ -7,48 +7,51 @@ use Rattle.lists.proofs.turn.Statement.{statement}
 use Rattle.lists.proofs.turn.Tie as tie
 
 enter-valid-requires : tie.Need-enter-valid-requires
-enter-valid-requires c κs = let s = c .before .before .before .before .before .before .before .before in
+enter-valid-requires c κs = let s = c .before .before .before .before .before .before .before .before .before .before in
     let a = s .args in
-    turn-room (a .head) (a .message) (a .operators .now) (a .rides .now) (a .stamps .now) (a .index .now) (a .n) (a .answers .now) (s .pre .0)
+    turn-room (a .head) (a .message) (a .operators .now) (a .rides .now) (a .stamps .now) (a .revisions .now) (a .index .now) (a .n) (a .answers .now) (s .pre .0)
 
 mul-answers : tie.Need-mul-answers
-mul-answers c = let s = c .before .before .before .before .before .before .before .before .before .before .before .before .before .before .before in
+mul-answers c = let s = c .before .before .before .before .before .before .before .before .before .before .before .before .before .before .before .before .before .before .before in
     let a = s .args in
-    omega (arith, turn-answers (a .head) (a .message) (a .operators .now) (a .rides .now) (a .stamps .now) (a .index .now) (a .n) (a .answers .now) (s .pre .0), s .pre .1)
+    omega (arith, turn-answers (a .head) (a .message) (a .operators .now) (a .rides .now) (a .stamps .now) (a .revisions .now) (a .index .now) (a .n) (a .answers .now) (s .pre .0), s .pre .1)
 
 slice-write-answers : tie.Need-slice-write-answers
-slice-write-answers c = let s = c .before .before .before .before .before .before .before .before .before .before .before .before .before .before .before in
+slice-write-answers c = let s = c .before .before .before .before .before .before .before .before .before .before .before .before .before .before .before .before .before .before .before in
     let a = s .args in
-    omega (arith, turn-answers (a .head) (a .message) (a .operators .now) (a .rides .now) (a .stamps .now) (a .index .now) (a .n) (a .answers .now) (s .pre .0), s .pre .1)
+    omega (arith, turn-answers (a .head) (a .message) (a .operators .now) (a .rides .now) (a .stamps .now) (a .revisions .now) (a .index .now) (a .n) (a .answers .now) (s .pre .0), s .pre .1)
 
 finish-requires : tie.Need-finish-requires
-finish-requires c κs = let s = c .before .before .before .before .before .before .before .before .before .before .before .before .before .before .before .before .before .before .before in
+finish-requires c κs = let s = c .before .before .before .before .before .before .before .before .before .before .before .before .before .before .before .before .before .before .before .before .before .before .before in
     let a = s .args in (
-      turn-pairs (a .head) (a .message) (a .operators .now) (a .rides .now) (a .stamps .now) (a .index .now) (a .n) (a .answers .now) (s .pre .0) _ _ _ _ _ (c .before .before .before .before .before .before .before .before .before .before .enter-valid .ensures),
-      turn-index (a .head) (a .message) (a .operators .now) (a .rides .now) (a .stamps .now) (a .index .now) (a .n) (a .answers .now) (s .pre .0),
+      turn-pairs (a .head) (a .message) (a .operators .now) (a .rides .now) (a .stamps .now) (a .revisions .now) (a .index .now) (a .n) (a .answers .now) (s .pre .0) _ _ _ _ _ _ (c .before .before .before .before .before .before .before .before .before .before .before .before .enter-valid .ensures),
+      turn-index (a .head) (a .message) (a .operators .now) (a .rides .now) (a .stamps .now) (a .revisions .now) (a .index .now) (a .n) (a .answers .now) (s .pre .0),
       s .pre .1,
-      simp length-set (turn-answers (a .head) (a .message) (a .operators .now) (a .rides .now) (a .stamps .now) (a .index .now) (a .n) (a .answers .now) (s .pre .0)),
+      simp length-set (turn-answers (a .head) (a .message) (a .operators .now) (a .rides .now) (a .stamps .now) (a .revisions .now) (a .index .now) (a .n) (a .answers .now) (s .pre .0)),
     )
 
 same-length : tie.Need-same-length
-same-length c = search needs
+same-length c = c .before .before .before .before .before .before .before .before .before .before .before .before .before .before .operators .given
 
 same-length-2 : tie.Need-same-length-2
-same-length-2 c = search needs
+same-length-2 c = c .before .before .before .before .before .before .before .before .before .before .before .before .rides .given
 
 same-length-3 : tie.Need-same-length-3
-same-length-3 c = search needs
+same-length-3 c = c .before .before .before .before .before .before .before .before .before .before .stamps .given
 
 same-length-4 : tie.Need-same-length-4
-same-length-4 c = search needs
+same-length-4 c = c .before .before .before .before .before .before .before .before .revisions .given
 
 same-length-5 : tie.Need-same-length-5
-same-length-5 c = search needs
+same-length-5 c = c .before .index .given
+
+same-length-6 : tie.Need-same-length-6
+same-length-6 c = search needs
 
 returns : tie.Need-returns
-returns c = let s = c .before .before .before .before .before .before .before .before .before .before .before .before .before .before .before .before .before .before .before .before .before .before in
+returns c = let s = c .before .before .before .before .before .before .before .before .before .before .before .before .before .before .before .before .before .before .before .before .before .before .before .before .before .before in
     let a = s .args in
-    turn-done (a .head) (a .message) (a .operators .now) (a .rides .now) (a .stamps .now) (a .index .now) (a .n) (a .answers .now) (s .pre .0) _ _ _ _ _ (c .before .before .before .before .before .before .before .before .before .before .before .before .before .enter-valid .ensures) (a .at) _ (c .before .before .finish .ensures)
+    turn-done (a .head) (a .message) (a .operators .now) (a .rides .now) (a .stamps .now) (a .revisions .now) (a .index .now) (a .n) (a .answers .now) (s .pre .0) _ _ _ _ _ _ (c .before .before .before .before .before .before .before .before .before .before .before .before .before .before .before .enter-valid .ensures) (a .at) _ (c .before .before .finish .ensures)
 
 pub turn-spec : {M : Type 1} → statement M
 turn-spec =
@@ -63,4 +66,5 @@ turn-spec =
     same-length-3
     same-length-4
     same-length-5
+    same-length-6
     returns)
