@@ -18,8 +18,11 @@ same-length-3 c = search needs
 same-length-4 : tie.Need-same-length-4
 same-length-4 c = search needs
 
+same-length-5 : tie.Need-same-length-5
+same-length-5 c = search needs
+
 returns : tie.Need-returns
-returns c = c .before .before .before .before .before .before .before .before .build .ensures
+returns c = c .before .before .before .before .before .before .before .before .before .before .build .ensures
 
 pub board-build-spec : {M : Type 1} → statement M
 board-build-spec =
@@ -30,4 +33,5 @@ board-build-spec =
     same-length-2
     same-length-3
     same-length-4
+    same-length-5
     returns)
