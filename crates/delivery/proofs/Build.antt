@@ -13,7 +13,7 @@ use Rattle.model.specs.declared.Head.{Head}
 use Rattle.model.specs.declared.Message.{Message}
 use Rattle.model.specs.Graph.{Graph}
 use Rattle.model.specs.Layout.{Operators, Rides, Board, listed, board-graph}
-use Rattle.model.specs.Contents.{Slot, Pair, slot, entry, board-of}
+use Rattle.model.specs.Contents.{Slot, Pair, Entry, slot, entry, board-of}
 use Rattle.model.specs.Refusal.{build-refusal}
 use Rattle.model.specs.Calls.{start-contents, built, board-build}
 use Rattle.model.proofs.Count.{test-true, test-false}
@@ -29,7 +29,7 @@ use Rattle.delivery.proofs.Latest.{Is, latest-is, AllValid}
 module _ (operators rides : List ℕ) (start : ℕ) where
   -- the grant of the pair at place i
   abbrev grant : ℕ → Message
-  grant i = record { kind = 1; operator = getD operators i 0; ride = getD rides i 0; stamp = start }
+  grant i = record { kind = 1; operator = getD operators i 0; ride = getD rides i 0; revision = 0; stamp = start }
 
   grants-place : (n : ℕ) (e : Message) → List·Memᴰ e (grants n operators rides start) → (i : ℕ) × (i < n) × (e ≡ grant i)
   unfolding grants
@@ -49,16 +49,18 @@ module _ (operators rides : List ℕ) (start : ℕ) where
         | no l ↦ Memᴰ·append-right (grants n operators rides start) (List·Memᴰ.List·Memᴰ·head (ap grant (let q : i ≡ n = omega arith in q)))
       ]
 
+  -- what the build says of a pair, by whether it is listed
+  abbrev start-entry : Bool → Entry
+  start-entry b = record { stamp = elim b [ true ↦ start | false ↦ 0 ]; revision = 0; gives = b }
+
   -- a listed pair's latest entry is its grant, and no other pair has one
-  grants-is : (n u v : ℕ) (o : Option Message) → Is (grants n operators rides start) (Pair u v) o → (listed n operators rides u v ≡ said o .gives) × (elim (listed n operators rides u v) [ true ↦ start | false ↦ 0 ] ≡ said o .stamp)
+  grants-is : (n u v : ℕ) (o : Option Message) → Is (grants n operators rides start) (Pair u v) o → start-entry (listed n operators rides u v) ≡ said o
   grants-is n u v none is =
-      let e = test-false (listed n operators rides u v) (λ t. let w = listed-place n operators rides u v t in is (grant (w .0)) (grants-holds n (w .0) (w .1)) (ap₂ Pair (w .2) (w .3))) in
-      (e, ap (λ (b : Bool). elim b [ true ↦ start | false ↦ 0 ]) e)
+      ap start-entry (test-false (listed n operators rides u v) (λ t. let w = listed-place n operators rides u v t in is (grant (w .0)) (grants-holds n (w .0) (w .1)) (ap₂ Pair (w .2) (w .3))))
   grants-is n u v (some e) is =
       let w = grants-place n e (is .member) in
       let q : Pair (getD operators (w .0) 0) (getD rides (w .0) 0) ≡ Pair u v = sym (ap slot (w .2)) ∙ is .about in
-      let t = test-true (listed n operators rides u v) (place-listed n operators rides u v (w .0) (w .1) (pair-equal _ _ u v q .0) (pair-equal _ _ u v q .1)) in
-      (t ∙ sym (ap (λ (x : Message). entry x .gives) (w .2)), ap (λ (b : Bool). elim b [ true ↦ start | false ↦ 0 ]) t ∙ sym (ap (λ (x : Message). x .stamp) (w .2)))
+      ap start-entry (test-true (listed n operators rides u v) (place-listed n operators rides u v (w .0) (w .1) (pair-equal _ _ u v q .0) (pair-equal _ _ u v q .1))) ∙ sym (ap entry (w .2))
 
 -- grants depend on the listed places alone
 pub grants-same : (o r o′ r′ : List ℕ) (start n k : ℕ) → k ≤ n → take n o ≡ take n o′ → take n r ≡ take n r′ → grants k o r start ≡ grants k o′ r′ start
@@ -66,7 +68,7 @@ unfolding grants
 grants-same o r o′ r′ start n zero h e d = refl
 grants-same o r o′ r′ start n (suc k) h e d =
     let at : (x x′ : List ℕ) → take n x ≡ take n x′ → getD x k 0 ≡ getD x′ k 0 = λ x x′ q. sym (getD-take n x k 0 h) ∙ ap (λ (l : List ℕ). getD l k 0) q ∙ getD-take n x′ k 0 h in
-    ap₂ _++_ (grants-same o r o′ r′ start n k (omega arith) e d) (ap₂ (λ (u v : ℕ). record { kind = 1; operator = u; ride = v; stamp = start } ∷ []) (at o o′ e) (at r r′ d))
+    ap₂ _++_ (grants-same o r o′ r′ start n k (omega arith) e d) (ap₂ (λ (u v : ℕ). record { kind = 1; operator = u; ride = v; revision = 0; stamp = start } ∷ []) (at o o′ e) (at r r′ d))
 
 -- ---- the build
 
@@ -93,6 +95,7 @@ module _ (b : Board) (start : ℕ) (accepted : build-refusal b start ≡ 0) wher
         operator = table .pairs .operator (w .0) (w .1);
         ride = table .pairs .ride (w .0) (w .1);
         stamp = build-none b start accepted .1;
+        revision = omega arith;
       })
 
   built-of : built-board b start ≡ board-of h (start-contents g start)
@@ -106,5 +109,4 @@ module _ (b : Board) (start : ℕ) (accepted : build-refusal b start ≡ 0) wher
     where
       says : (t : Slot) → Within h t → start-contents g start t ≡ said (latest start-grants t)
       says (Pair u v) w =
-          let is = grants-is (b .part Operators) (b .part Rides) start (h .pairs) u v (latest start-grants (Pair u v)) (latest-is start-grants (Pair u v)) in
-          λ j. record { stamp = is .1 j; gives = is .0 j }
+          grants-is (b .part Operators) (b .part Rides) start (h .pairs) u v (latest start-grants (Pair u v)) (latest-is start-grants (Pair u v))

@@ -41,7 +41,7 @@ module _ (h : Head) (es : List Message) where
     written-peel : AllValid h es → (more more′ : List ℕ) (allowed : ℕ) → ((x : ℕ) → x < mark-places h → getD marks x 0 ≡ 1) → IsPeeledCore (board-graph board) α β allowed (board-peel (board .head) (board .part Operators ++ more) (board .part Rides ++ more′) marks α β allowed)
     unfolding written
     written-peel valid more more′ allowed ones =
-        let behind : Parts = parts more more′ [] [] in
+        let behind : Parts = parts more more′ [] [] [] in
         let lent : Board = extend board behind in
         let none = peel-none lent marks (accepted-written h es few few′ valid behind .table) long ones in
         subst (λ (g : Graph). IsPeeledCore g α β allowed (board-peel (board .head) (lent .part Operators) (lent .part Rides) marks α β allowed)) (graph-extend h (says h es) behind)

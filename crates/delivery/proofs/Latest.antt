@@ -5,16 +5,17 @@ use mathlib.Core.Logic.{inl, inr}
 use mathlib.Core.Bool.{Bool, _&&_, _||_, not}
 use mathlib.Core.List.{List, [], _∷_, _++_, List·Memᴰ, List·Memᴰ·cases-cons, List·Memᴰ·not-nil, List·Memᴰ·append-cases, List·Memᴰ·eq-of-singleton, Memᴰ·append-left, Memᴰ·append-right}
 use mathlib.Core.Option.{Option, none, some}
-use Prim.Native.Nat.{ℕ, _<_}
+use Prim.Native.Nat.{ℕ, _≤_, _<_}
 use native.Mathlib.Omega.{arith}
 use native.Mathlib.Decide.{decLt}
-use lib.Dec.{T, ltb, eqb, ltb→lt, lt→ltb, eqb→eq, eqb-refl, T-not, not-T}
+use lib.Dec.{T, ltb, eqb, ltb→lt, lt→ltb, eqb→eq, T-not, not-T}
+use borrow.Author.Tests.{eq-eqb}
 use Rattle.model.specs.declared.Head.{Head}
 use Rattle.model.specs.declared.Message.{Message}
 use Rattle.model.specs.Contents.{Slot, same-slot, Entry, later, slot, entry, unheard}
-use Rattle.model.specs.Refusal.{refused-7, refused-8, refused-9}
+use Rattle.model.specs.Refusal.{first-number, valid-cases}
 use Rattle.model.proofs.Count.{by-test, test-true, test-false, test-ext, and-left, and-right, and-both, or-left, or-right, or-cases}
-use Rattle.model.proofs.Refusal.{Valid, valid-kind, valid-pair, valid-stamp, tests-valid}
+use Rattle.model.proofs.Refusal.{Valid, valid-none, none-valid}
 use Rattle.model.proofs.Contents.{slot-refl, slot-equal}
 use Rattle.delivery.specs.Book.{valid, later-one, latest, said}
 use Rattle.delivery.specs.Demand.{Latest, LatestLaws}
@@ -24,20 +25,11 @@ use Rattle.delivery.specs.Demand.{Latest, LatestLaws}
 module _ (h : Head) (m : Message) where
   pub valid-test : T (valid h m) → Valid h m
   unfolding valid
-  valid-test t =
-      let n = T-not (refused-7 m || refused-8 h m || refused-9 (m .stamp)) t in
-      tests-valid h m
-      (λ s. n (or-left (refused-7 m || refused-8 h m) (refused-9 (m .stamp)) (or-left (refused-7 m) (refused-8 h m) s)))
-      (λ s. n (or-left (refused-7 m || refused-8 h m) (refused-9 (m .stamp)) (or-right (refused-7 m) (refused-8 h m) s)))
-      (λ s. n (or-right (refused-7 m || refused-8 h m) (refused-9 (m .stamp)) s))
+  valid-test t = valid-none h m (eqb→eq (first-number (valid-cases h m)) 0 t)
 
   pub test-valid : Valid h m → T (valid h m)
   unfolding valid
-  test-valid v =
-      not-T (refused-7 m || refused-8 h m || refused-9 (m .stamp))
-      (λ t. or-cases (refused-7 m || refused-8 h m) (refused-9 (m .stamp)) t
-      (λ s. or-cases (refused-7 m) (refused-8 h m) s (valid-kind h m (v .kind-low) (v .kind-high)) (valid-pair h m (v .operator) (v .ride)))
-      (valid-stamp h m (v .stamp)))
+  test-valid v = subst T (sym (eq-eqb (first-number (valid-cases h m)) 0 (none-valid h m v))) tt
 
 -- ---- later
 
@@ -45,39 +37,65 @@ abbrev pub Later : Entry → Entry → Type 0
 Later e f = T (later e f)
 
 module _ (e f : Entry) where
-  -- at equal stamps: e takes away, and f gives
+  -- at equal stamps and revisions: e takes away, and f gives
   abbrev tie : Bool
-  tie = eqb (e .stamp) (f .stamp) && (not (e .gives) && f .gives)
+  tie = eqb (e .revision) (f .revision) && (not (e .gives) && f .gives)
 
-  later-cases {ℓ} : {C : Type ℓ} → Later e f → (f .stamp < e .stamp → C) → (e .stamp ≡ f .stamp → (T (e .gives) → ⊥) → T (f .gives) → C) → C
-  later-cases t c d =
-      or-cases (ltb (f .stamp) (e .stamp)) tie t
+  -- at equal stamps
+  abbrev revised : Bool
+  revised = ltb (f .revision) (e .revision) || tie
+
+  later-cases {ℓ} : {C : Type ℓ} → Later e f → (f .stamp < e .stamp → C) → (e .stamp ≡ f .stamp → f .revision < e .revision → C) → (e .stamp ≡ f .stamp → e .revision ≡ f .revision → (T (e .gives) → ⊥) → T (f .gives) → C) → C
+  later-cases t c d g =
+      or-cases (ltb (f .stamp) (e .stamp)) (eqb (e .stamp) (f .stamp) && revised) t
       (λ l. c (ltb→lt (f .stamp) (e .stamp) l))
-      (λ k. let r = and-right (eqb (e .stamp) (f .stamp)) (not (e .gives) && f .gives) k in
-      d (eqb→eq (e .stamp) (f .stamp) (and-left (eqb (e .stamp) (f .stamp)) (not (e .gives) && f .gives) k)) (T-not (e .gives) (and-left (not (e .gives)) (f .gives) r)) (and-right (not (e .gives)) (f .gives) r))
+      (λ k. let q = eqb→eq (e .stamp) (f .stamp) (and-left (eqb (e .stamp) (f .stamp)) revised k) in
+      or-cases (ltb (f .revision) (e .revision)) tie (and-right (eqb (e .stamp) (f .stamp)) revised k)
+      (λ l. d q (ltb→lt (f .revision) (e .revision) l))
+      (λ r. let w = and-right (eqb (e .revision) (f .revision)) (not (e .gives) && f .gives) r in
+      g q (eqb→eq (e .revision) (f .revision) (and-left (eqb (e .revision) (f .revision)) (not (e .gives) && f .gives) r)) (T-not (e .gives) (and-left (not (e .gives)) (f .gives) w)) (and-right (not (e .gives)) (f .gives) w)))
 
   pub later-stamp : f .stamp < e .stamp → Later e f
-  later-stamp l = or-left (ltb (f .stamp) (e .stamp)) tie (lt→ltb (f .stamp) (e .stamp) l)
+  later-stamp l = or-left (ltb (f .stamp) (e .stamp)) (eqb (e .stamp) (f .stamp) && revised) (lt→ltb (f .stamp) (e .stamp) l)
 
-  later-tie : e .stamp ≡ f .stamp → (T (e .gives) → ⊥) → T (f .gives) → Later e f
-  later-tie q n g =
-      or-right (ltb (f .stamp) (e .stamp)) tie (and-both (eqb (e .stamp) (f .stamp)) (not (e .gives) && f .gives) (subst (λ (x : ℕ). T (eqb (e .stamp) x)) q (eqb-refl (e .stamp))) (and-both (not (e .gives)) (f .gives) (not-T (e .gives) n) g))
+  later-same : e .stamp ≡ f .stamp → T revised → Later e f
+  later-same q t =
+      or-right (ltb (f .stamp) (e .stamp)) (eqb (e .stamp) (f .stamp) && revised) (and-both (eqb (e .stamp) (f .stamp)) revised (subst T (sym (eq-eqb (e .stamp) (f .stamp) q)) tt) t)
+
+  later-revision : e .stamp ≡ f .stamp → f .revision < e .revision → Later e f
+  later-revision q l = later-same q (or-left (ltb (f .revision) (e .revision)) tie (lt→ltb (f .revision) (e .revision) l))
+
+  later-tie : e .stamp ≡ f .stamp → e .revision ≡ f .revision → (T (e .gives) → ⊥) → T (f .gives) → Later e f
+  later-tie q r n g =
+      later-same q
+      (or-right (ltb (f .revision) (e .revision)) tie (and-both (eqb (e .revision) (f .revision)) (not (e .gives) && f .gives) (subst T (sym (eq-eqb (e .revision) (f .revision) r)) tt) (and-both (not (e .gives)) (f .gives) (not-T (e .gives) n) g)))
+
+  -- where e is not later, its stamp is at most f's, and at equal stamps its revision
+  not-later : (Later e f → ⊥) → (e .stamp ≤ f .stamp) × (e .stamp ≡ f .stamp → e .revision ≤ f .revision)
+  not-later n = (
+    elim (decLt (f .stamp) (e .stamp)) [ yes l ↦ absurd (n (later-stamp l)) | no l ↦ omega arith ],
+    λ q. elim (decLt (f .revision) (e .revision)) [ yes l ↦ absurd (n (later-revision q l)) | no l ↦ omega arith ],
+  )
 
 later-irrefl : (e : Entry) → Later e e → ⊥
-later-irrefl e t = later-cases e e t (λ h. let z : ⊥ = omega arith in z) (λ q n g. n g)
+later-irrefl e t = later-cases e e t (λ h. let z : ⊥ = omega arith in z) (λ q h. let z : ⊥ = omega arith in z) (λ q r n g. n g)
 
 later-trans : (e f d : Entry) → Later e f → Later f d → Later e d
 later-trans e f d t s =
     later-cases e f t
-    (λ h. later-cases f d s (λ l. later-stamp e d (omega arith)) (λ q n g. later-stamp e d (omega arith)))
-    (λ q n g. later-cases f d s (λ l. later-stamp e d (omega arith)) (λ q′ n′ g′. absurd (n′ g)))
+    (λ h. later-cases f d s (λ l. later-stamp e d (omega arith)) (λ q l. later-stamp e d (omega arith)) (λ q r n g. later-stamp e d (omega arith)))
+    (λ q h. later-cases f d s (λ l. later-stamp e d (omega arith)) (λ q′ l. later-revision e d (q ∙ q′) (omega arith)) (λ q′ r n g. later-revision e d (q ∙ q′) (omega arith)))
+    (λ q r n g. later-cases f d s (λ l. later-stamp e d (omega arith)) (λ q′ l. later-revision e d (q ∙ q′) (omega arith)) (λ q′ r′ n′ g′. absurd (n′ g)))
 
 -- of two different entries one is later
 later-total : (e f : Entry) → (Later e f → ⊥) → (Later f e → ⊥) → e ≡ f
 later-total e f n n′ =
-    let stamp : e .stamp ≡ f .stamp = elim (decLt (f .stamp) (e .stamp)) [ yes l ↦ absurd (n (later-stamp e f l)) | no l ↦ elim (decLt (e .stamp) (f .stamp)) [ yes k ↦ absurd (n′ (later-stamp f e k)) | no k ↦ omega arith ] ] in
-    let gives : e .gives ≡ f .gives = test-ext (e .gives) (f .gives) (λ t. by-test (f .gives) (λ s. s) (λ s. absurd (n′ (later-tie f e (sym stamp) s t)))) (λ t. by-test (e .gives) (λ s. s) (λ s. absurd (n (later-tie e f stamp s t)))) in
-    λ j. record { stamp = stamp j; gives = gives j }
+    let low = not-later e f n in
+    let high = not-later f e n′ in
+    let stamp : e .stamp ≡ f .stamp = omega (arith, low .0, high .0) in
+    let revision : e .revision ≡ f .revision = omega (arith, low .1 stamp, high .1 (sym stamp)) in
+    let gives : e .gives ≡ f .gives = test-ext (e .gives) (f .gives) (λ t. by-test (f .gives) (λ s. s) (λ s. absurd (n′ (later-tie f e (sym stamp) (sym revision) s t)))) (λ t. by-test (e .gives) (λ s. s) (λ s. absurd (n (later-tie e f stamp revision s t)))) in
+    λ j. record { stamp = stamp j; revision = revision j; gives = gives j }
 
 -- e is not later than f
 abbrev pub AtMost : Entry → Entry → Type 0
@@ -202,7 +220,7 @@ latest-laws =
       missing = λ es t q. subst (Is es t) q (latest-is es t);
       only = λ h es t e f valid i j.
           let q = later-total (entry e) (entry f) (j .last e (i .member) (i .about)) (i .last f (j .member) (j .about)) in
-          (entry-kind h e f (valid-test h e (valid e (i .member))) (valid-test h f (valid f (j .member))) q, ap (λ (x : Entry). x .stamp) q);
+          (entry-kind h e f (valid-test h e (valid e (i .member))) (valid-test h f (valid f (j .member))) q, ap (λ (x : Entry). x .stamp) q, ap (λ (x : Entry). x .revision) q);
     }
 
 -- ---- one entry more

@@ -17,7 +17,7 @@ use Rattle.model.specs.Message.{MessageOutcome, board-after, board-message, Lis
 use Rattle.model.proofs.Count.{by-test, test-true, test-false, or-left, or-right, or-cases}
 use Rattle.model.proofs.Chain.{first-nil, first-here, first-skip, enough}
 use Rattle.model.proofs.Parts.{board-long}
-use Rattle.model.proofs.Refusal.{Accepted, Valid, short-three, taken-none, message-valid, list-accepted}
+use Rattle.model.proofs.Refusal.{Accepted, Valid, valid-sizes, short-three, taken-none, message-valid, list-accepted}
 use Rattle.model.proofs.Contents.{by-slot, put-same, put-other, Within, length-words, places-of, extend, contents-of, accepted-of, board-of-same, board-of-sizes, onto-extend}
 use Rattle.model.proofs.Taken.{valid-within, message-taken, message-refused, list-taken, list-refused}
 use Rattle.delivery.specs.Calls.{Lending, Call, message, messages, sent, lend, take-back, after, run, returned, case}
@@ -87,14 +87,7 @@ module _ (h : Head) (few : h .operators ≤ 200) (few′ : h .rides ≤ 60) (mor
 
       valid-board : Valid (board .head) m
       unfolding written
-      valid-board =
-          record {
-            kind-low = v .kind-low;
-            kind-high = v .kind-high;
-            operator = v .operator;
-            ride = v .ride;
-            stamp = v .stamp;
-          }
+      valid-board = valid-sizes h (board .head) m refl refl v
 
       -- the board says of each slot what the book says
       board-says : (t : Slot) → Within h t → contents board t ≡ said (latest es t)
@@ -138,8 +131,7 @@ module _ (h : Head) (few : h .operators ≤ 200) (few′ : h .rides ≤ 60) (mor
     pub taken-valid : message-refusal (lent-board es) m ≡ 0 → T (valid h m)
     unfolding written
     taken-valid e =
-        let v = taken-none (lent-board es) m e .1 in
-        test-valid h m (record { kind-low = v .kind-low; kind-high = v .kind-high; operator = v .operator; ride = v .ride; stamp = v .stamp })
+        test-valid h m (valid-sizes (lent-board es .head) h m refl refl (taken-none (lent-board es) m e .1))
 
     invalid-refused : (T (valid h m) → ⊥) → board-message (lent-board es) m .board ≡ lent-board es
     invalid-refused n = go (message-refusal (lent-board es) m) refl

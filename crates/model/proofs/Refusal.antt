@@ -127,6 +127,18 @@ pub record Valid (h : Head) (m : Message) : Type 0 where
   pub stamp : 1 ≤ m .stamp
   pub revision : m .revision ≤ 255
 
+-- of a head the sizes count alone
+pub valid-sizes : (h h′ : Head) (m : Message) → h .operators ≡ h′ .operators → h .rides ≡ h′ .rides → Valid h m → Valid h′ m
+valid-sizes h h′ m o r v =
+    record {
+      kind-low = v .kind-low;
+      kind-high = v .kind-high;
+      operator = subst (λ (n : ℕ). m .operator < n) o (v .operator);
+      ride = subst (λ (n : ℕ). m .ride < n) r (v .ride);
+      stamp = v .stamp;
+      revision = v .revision;
+    }
+
 module _ (h : Head) (m : Message) where
   pub valid-kind : 1 ≤ m .kind → m .kind ≤ 2 → T (refused-7 m) → ⊥
   valid-kind l u t =
