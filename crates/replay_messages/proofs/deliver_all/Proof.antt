@@ -1,23 +1,24 @@
 -- `deliver_all` is safe and ends: i goes up to the count, and every part keeps its length. Assumes nothing.
 use Prim.Native.Nat.{_-_}
 use mathlib.Core.Path.{_≡_}
+use native.Mathlib.Omega.{arith}
 use lib.ListN.{length}
 use borrow.Author.Needs.{needs}
 use Rattle.replay_messages.proofs.deliver_all.Statement.{statement}
 use Rattle.replay_messages.proofs.deliver_all.Tie as tie
 
 abbrev Inv-loop : tie.InvT-loop
-Inv-loop frame count operators₀ rides₀ stamps₀ index₀ answers₀ pairs₀ at₀ i₀ operators rides stamps index answers pairs at i = (length operators ≡ length operators₀) × (length rides ≡ length rides₀) × (length stamps ≡ length stamps₀) × (length index ≡ length index₀) × (length answers ≡ length answers₀)
+Inv-loop frame count operators₀ rides₀ stamps₀ revisions₀ index₀ answers₀ pairs₀ at₀ i₀ operators rides stamps revisions index answers pairs at i = (length operators ≡ length operators₀) × (length rides ≡ length rides₀) × (length stamps ≡ length stamps₀) × (length revisions ≡ length revisions₀) × (length index ≡ length index₀) × (length answers ≡ length answers₀)
 
 abbrev μ-loop : tie.MeasureT-loop
-μ-loop frame count operators₀ rides₀ stamps₀ index₀ answers₀ pairs₀ at₀ i₀ operators rides stamps index answers pairs at i = count - i
+μ-loop frame count operators₀ rides₀ stamps₀ revisions₀ index₀ answers₀ pairs₀ at₀ i₀ operators rides stamps revisions index answers pairs at i = count - i
 
 pub deliver-all-spec : {M : Type 1} → statement M
 deliver-all-spec =
     tie.close
     (tie.spec Inv-loop μ-loop
     (λ c κs. search needs) (λ c. search needs) (λ c κs. search needs) (λ c κs. search needs)
-    (λ c κs. search needs) (λ c. search needs) (λ c. search needs)
-    (λ c. (search needs, search needs, search needs, search needs, search needs))
+    (λ c κs. search needs) (λ c. omega (arith, c .before .before .before .before .before .before .before .before .before .before .before .before .before .before .before .before .before .before .before .before .before .loop-test .taken, c .before .before .before .before .before .before .before .before .before .before .before .before .before .before .before .before .before .before .before .before .before .before .before .before .before .before .before .before .before .before .before .fits)) (λ c. search needs)
+    (λ c. (search needs, search needs, search needs, search needs, search needs, search needs))
     (λ c. search needs) (λ c. search needs) (λ c. search needs) (λ c. search needs)
-    (λ c. search needs) (λ c. search needs))
+    (λ c. search needs) (λ c. search needs) (λ c. search needs))
