@@ -10,13 +10,14 @@ use borrow.Author.Tests.{eq-eqb}
 use lib.ListN.{length}
 use Rattle.model.specs.declared.Head.{Head}
 use Rattle.model.specs.declared.Message.{Message}
-use Rattle.model.specs.Layout.{Operators, Rides, Parts, Board, pair-places, of-parts}
+use Rattle.model.specs.Layout.{Part, Operators, Rides, Stamps, Revisions, Parts, Board, pair-places, places, of-parts}
 use Rattle.model.specs.Refusal.{refused-1, refused-2, refused-3, refused-4, refused-5, refused-6, refused-7, refused-8, refused-9, refused-10, refused-14, board-short, first-number, table-cases, board-cases, valid-cases, message-cases, message-refusal, preview-refusal, list-refusal}
-use Rattle.model.proofs.Count.{or-left, or-right, or-cases}
+use Rattle.model.proofs.Count.{test-false, or-left, or-right, or-cases}
 use Rattle.model.proofs.Chain.{first-nil, first-here, first-skip, first-none, enough, lt-less, Positive, first-front, first-behind}
+use Rattle.model.proofs.Parts.{board-long}
 use Rattle.model.proofs.Refusal.{valid-kind, valid-pair, valid-stamp, positive-valid}
 use Rattle.pairs.specs.Accepted.{AcceptedPairs}
-use Rattle.refusals.proofs.Chain.{table-first, table-rest}
+use Rattle.refusals.proofs.Chain.{table-first, table-rest, table-long}
 
 -- where none of 1 to 5 applies to a pair table that is long enough, it is accepted
 pub table-accepted : (h : Head) (short : Bool) (operators rides : List ℕ) (cs : List (ℕ × Bool)) → first-number (table-cases h short operators rides ++ cs) ≡ 0 → pair-places h ≤ length operators → pair-places h ≤ length rides → AcceptedPairs h operators rides
@@ -48,6 +49,18 @@ module _ (b : Board) (short : Bool) (k : ℕ) (e : k ≡ first-number (table-cas
 
   pub stamped-0 : k ≡ 0 → refused-6 b ≡ false → 0 ≡ first-number (table-cases (b .head) short (b .part Operators) (b .part Rides) ++ six)
   stamped-0 z t = sym (first-skip 6 (refused-6 b) [] (λ x. subst T t x) ∙ first-nil) ∙ table-rest (b .head) short (b .part Operators) (b .part Rides) six k e z
+
+-- where neither a part of a board nor anything else is too short, each part is long enough
+pub either-long : (b : Board) (other : Bool) → (board-short b || other) ≡ false → (p : Part) → places (b .head) p ≤ length (b .part p)
+either-long b other e = board-long b (λ t. subst T e (or-left (board-short b) other t))
+
+-- where none of 1 to 6 applies to a board that is long enough unless a part is said to be too short, a message can be looked at
+module _ (b : Board) (short : Bool) (long : short ≡ false → (p : Part) → places (b .head) p ≤ length (b .part p)) where
+  pub board-ready : first-number (board-cases b short) ≡ 0 → AcceptedPairs (b .head) (b .part Operators) (b .part Rides) × (pair-places (b .head) ≤ length (b .part Stamps)) × (pair-places (b .head) ≤ length (b .part Revisions))
+  board-ready e =
+      let six : List (ℕ × Bool) = (6, refused-6 b) ∷ [] in
+      let l = long (test-false short (table-long (b .head) short (b .part Operators) (b .part Rides) six e)) in
+      (table-accepted (b .head) short (b .part Operators) (b .part Rides) six e (l Operators) (l Rides), l Stamps, l Revisions)
 
 -- ---- 7 to 9 and 14
 

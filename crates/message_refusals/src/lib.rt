@@ -1,6 +1,6 @@
 // Document 01's numbers of a message, a preview and a message list: the first that applies, 0 if none does.
 ghost use mathlib.Core.Path.{_≡_};
-ghost use mathlib.Core.Bool.{false, _||_};
+ghost use mathlib.Core.Bool.{Bool, false, _||_};
 ghost use mathlib.Core.List.{List, _++_};
 ghost use Prim.Native.Nat.{ℕ, _≤_};
 ghost use lib.ListN.{length};
@@ -86,27 +86,28 @@ pub fn entry_number(
     0
 }
 
-// 1 to 9, 14 and 10 of a message on a board; short tells whether a lent part is too short.
+// 1 to 9, 14 and 10 of a message on a board whose own number, of 1 to 6, is known.
 fn number_on(
+    number: u16,
     head: Head,
     message: Message,
-    short: bool,
     operators: &[u16],
     rides: &[u16],
     stamps: &[u32],
     revisions: &[u16],
 ) -> u16
     requires { ⌜
-        (short ≡ false → (pair-places head ≤ length (now operators)) × (pair-places head ≤ length (now rides)) ×
-        (pair-places head ≤ length (now stamps)) × (pair-places head ≤ length (now revisions)))
+        (number ≡ 0 → AcceptedPairs head (now operators) (now rides) × (pair-places head ≤ length (now stamps)) ×
+        (pair-places head ≤ length (now revisions)))
         ⌝ }
     ensures { λ r. ⌜
-        ((index : List ℕ) → r ≡ first-number
+        ((index : List ℕ) (short : Bool) →
+        number ≡ first-number (board-cases (lent head (now (operators .entry)) (now (rides .entry)) (now (stamps .entry)) (now (revisions .entry)) index) short) →
+        r ≡ first-number
         (board-cases (lent head (now (operators .entry)) (now (rides .entry)) (now (stamps .entry)) (now (revisions .entry)) index) short ++
         message-cases (lent head (now (operators .entry)) (now (rides .entry)) (now (stamps .entry)) (now (revisions .entry)) index) message))
         ⌝ }
 {
-    let number = board_number(head, short, operators, rides, stamps);
     if number != 0 {
         return number;
     }
@@ -129,7 +130,8 @@ pub fn message_number(
         ⌝ }
 {
     let short = short_board(head, operators, rides, stamps, revisions, index);
-    number_on(head, message, short, operators, rides, stamps, revisions)
+    let number = board_number(head, short, operators, rides, stamps);
+    number_on(number, head, message, operators, rides, stamps, revisions)
 }
 
 // Whether a part of a board, or one of the spare memory for it, is too short.
@@ -203,7 +205,8 @@ pub fn preview_number(
         spare_revisions,
         spare_index,
     );
-    number_on(head, message, short, operators, rides, stamps, revisions)
+    let number = board_number(head, short, operators, rides, stamps);
+    number_on(number, head, message, operators, rides, stamps, revisions)
 }
 
 // Whether a part of a board is too short, or the answer list is shorter than the message list.

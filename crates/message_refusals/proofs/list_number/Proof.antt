@@ -1,12 +1,9 @@
 -- `message_refusals::list_number` meets its contract. Assumes nothing.
 use borrow.Author.Needs.{needs}
-use mathlib.Core.Path.{sym, subst, _∙_}
-use lib.Dec.{T}
+use mathlib.Core.Path.{sym, _∙_}
 use Rattle.model.specs.Layout.{Operators, Rides, Stamps, lent}
-use Rattle.model.specs.Refusal.{refused-3, board-short}
-use Rattle.model.proofs.Count.{or-left}
-use Rattle.model.proofs.Parts.{board-long}
-use Rattle.message_refusals.proofs.Message.{list-of}
+use Rattle.model.specs.Refusal.{refused-3}
+use Rattle.message_refusals.proofs.Message.{either-long, list-of}
 use Rattle.message_refusals.proofs.list_number.Statement.{statement}
 use Rattle.message_refusals.proofs.list_number.Tie as tie
 
@@ -16,7 +13,7 @@ short-list-requires c κs = search needs
 board-number-requires : tie.Need-board-number-requires
 board-number-requires c κs = let a = c .before .before .before .before .before .before .before .args in
     let b = lent (a .head) (a .operators .now) (a .rides .now) (a .stamps .now) (a .revisions .now) (a .index .now) in
-    λ e. let l = board-long b (λ t. subst T (sym (c .short-list .ensures) ∙ e) (or-left (board-short b) (refused-3 (a .messages) (a .answers .now)) t)) in (l Operators, l Rides, l Stamps)
+    λ e. let l = either-long b (refused-3 (a .messages) (a .answers .now)) (sym (c .short-list .ensures) ∙ e) in (l Operators, l Rides, l Stamps)
 
 returns : tie.Need-returns
 returns c = let a = c .before .before .before .before .before .before .before .before .args in
