@@ -18,3 +18,4 @@ pub mod EndToEnd
 pub mod Preview
 pub mod Eleven
 pub mod Samples
+pub mod Revisions

@@ -11,7 +11,8 @@ use Rattle.model.specs.declared.Message.{Message}
 use Rattle.model.specs.Count.{count, some}
 use Rattle.model.specs.Graph.{Graph, nodes, degree, everybody, Inside, Largest, limits, Core, marked, short, settled, removals, peel, cover, level, row-for, in-by-level, index-of}
 use Rattle.model.specs.Layout.{Part, Index, Board, mark-places, places, of-parts, exact, copied, sized, graph, board-graph}
-use Rattle.model.specs.Refusal.{refused-1, refused-2, first-number, board-short, build-refusal, peel-refusal}
+use Rattle.model.specs.Contents.{Pair, later, slot, entry, contents}
+use Rattle.model.specs.Refusal.{refused-1, refused-2, refused-7, refused-8, refused-9, first-number, board-short, valid-cases, build-refusal, list-refusal, peel-refusal}
 use Rattle.model.specs.Calls.{QueryOutcome, PeelOutcome, query-marks, board-build, board-query, board-peel}
 use Rattle.model.specs.Message.{board-message, board-preview, board-messages}
 
@@ -129,6 +130,22 @@ pub record PreviewLaws (b : Board) (m : Message) (spare : Board) : Type 0 where
   pub any-answer : (other : Board) → ((p : Part) → length (spare .part p) ≡ length (other .part p)) → board-preview b m spare .answer ≡ board-preview b m other .answer
   pub any-board : (other : Board) → board-preview b m spare .answer .code ≡ 0 → board-preview b m other .answer .code ≡ 0 →
       exact (board-preview b m spare .board) ≡ exact (board-preview b m other .board)
+
+-- Document 02, 2.3, of what a build and a message leave and answer, whatever revisions a board stores
+pub record RevisionLaws : Type 0 where
+  -- a build sets 0 for every pair
+  pub build : (b : Board) (start u v : ℕ) → board-build b start .code ≡ 0 → u < b .head .operators → v < b .head .rides →
+      contents (board-build b start .board) (Pair u v) .revision ≡ 0
+  -- a taken message leaves its own, with its stamp and kind, and every other pair keeps what it had
+  pub own : (b : Board) (m : Message) → board-message b m .answer .code ≡ 0 →
+      contents (board-message b m .board) (slot m) ≡ entry m
+  pub others : (b : Board) (m : Message) (u v : ℕ) → board-message b m .answer .code ≡ 0 → u < b .head .operators → v < b .head .rides → Pair u v ≢ slot m →
+      contents (board-message b m .board) (Pair u v) ≡ contents b (Pair u v)
+  -- where none of 1 to 6 applies, a revision over 255 gets 14 if none of 7 to 9 applies, and a valid message is taken exactly if it is later than its pair's last
+  pub fourteen : (b : Board) (m : Message) → list-refusal b 0 [] ≡ 0 → first-number ((7, refused-7 m) ∷ (8, refused-8 (b .head) m) ∷ (9, refused-9 (m .stamp)) ∷ []) ≡ 0 →
+      255 < m .revision → board-message b m .answer .code ≡ 14
+  pub taken : (b : Board) (m : Message) → list-refusal b 0 [] ≡ 0 → first-number (valid-cases (b .head) m) ≡ 0 →
+      (board-message b m .answer .code ≡ 0) ↔ T (later (entry m) (contents b (slot m)))
 
 -- Demand 2 for queries: on the index of any clearances of the head's sizes the marks are the (α, β)-core, for every α and β from 0
 abbrev pub QueryIsCore : Type 0

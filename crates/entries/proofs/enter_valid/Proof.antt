@@ -1,5 +1,4 @@
 -- `entries::enter_valid` meets its contract: refused by its number, or entered. Assumes nothing.
-use borrow.Author.Needs.{needs}
 use mathlib.Core.Path.{_≡_, refl, sym, _∙_}
 use mathlib.Core.List.{[]}
 use native.Mathlib.Omega.{arith}
