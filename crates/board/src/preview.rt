@@ -26,11 +26,11 @@ pub extern "C" fn board_preview(
 ) -> Answer
     ensures { λ r. ⌜
         answered r
-        (lent (now («spare_head» .exit)) (now («spare_operators» .exit)) (now («spare_rides» .exit)) (now («spare_stamps» .exit)) (now («spare_revisions» .exit))
-        (now («spare_index» .exit)))
+        (lent (now («spare_head» .exit)) (now («spare_operators» .exit)) (now («spare_rides» .exit)) (now («spare_stamps» .exit))
+        (now («spare_revisions» .exit)) (now («spare_index» .exit)))
         ≡ board-preview (lent head (now (operators .entry)) (now (rides .entry)) (now (stamps .entry)) (now (revisions .entry)) (now (index .entry))) message
-        (lent (now («spare_head» .entry)) (now («spare_operators» .entry)) (now («spare_rides» .entry)) (now («spare_stamps» .entry)) (now («spare_revisions» .entry))
-        (now («spare_index» .entry)))
+        (lent (now («spare_head» .entry)) (now («spare_operators» .entry)) (now («spare_rides» .entry)) (now («spare_stamps» .entry))
+        (now («spare_revisions» .entry)) (now («spare_index» .entry)))
         ⌝ }
 {
     let p = previews::preview(

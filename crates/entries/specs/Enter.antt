@@ -34,7 +34,8 @@ abbrev pub with-pairs : Head → ℕ → Head
 with-pairs h pairs = record { operators = h .operators; rides = h .rides; pairs = pairs }
 
 -- the parts and the number of pairs say it
-pub record Entered (h : Head) (m : Message) (operators rides stamps revisions : List ℕ) (count : ℕ) (operators′ rides′ stamps′ revisions′ : List ℕ) : Type 0 where
+pub record Entered (h : Head) (m : Message) (operators rides stamps revisions : List ℕ) (count : ℕ) (operators′ rides′ stamps′ revisions′ : List ℕ)
+    : Type 0 where
   pub pairs : count ≡ board-of h (next h m operators rides stamps revisions) .head .pairs
   pub operator-words : operators′ ≡ over (words h (next h m operators rides stamps revisions) Operators) operators
   pub ride-words : rides′ ≡ over (words h (next h m operators rides stamps revisions) Rides) rides

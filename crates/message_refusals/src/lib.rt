@@ -102,7 +102,8 @@ fn number_on(
         ⌝ }
     ensures { λ r. ⌜
         ((index : List ℕ) (short : Bool) →
-        number ≡ first-number (board-cases (lent head (now (operators .entry)) (now (rides .entry)) (now (stamps .entry)) (now (revisions .entry)) index) short) →
+        number ≡ first-number
+        (board-cases (lent head (now (operators .entry)) (now (rides .entry)) (now (stamps .entry)) (now (revisions .entry)) index) short) →
         r ≡ first-number
         (board-cases (lent head (now (operators .entry)) (now (rides .entry)) (now (stamps .entry)) (now (revisions .entry)) index) short ++
         message-cases (lent head (now (operators .entry)) (now (rides .entry)) (now (stamps .entry)) (now (revisions .entry)) index) message))

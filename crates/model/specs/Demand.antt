@@ -137,13 +137,12 @@ pub record RevisionLaws : Type 0 where
   pub build : (b : Board) (start u v : ℕ) → board-build b start .code ≡ 0 → u < b .head .operators → v < b .head .rides →
       contents (board-build b start .board) (Pair u v) .revision ≡ 0
   -- a taken message leaves its own, with its stamp and kind, and every other pair keeps what it had
-  pub own : (b : Board) (m : Message) → board-message b m .answer .code ≡ 0 →
-      contents (board-message b m .board) (slot m) ≡ entry m
+  pub own : (b : Board) (m : Message) → board-message b m .answer .code ≡ 0 → contents (board-message b m .board) (slot m) ≡ entry m
   pub others : (b : Board) (m : Message) (u v : ℕ) → board-message b m .answer .code ≡ 0 → u < b .head .operators → v < b .head .rides → Pair u v ≢ slot m →
       contents (board-message b m .board) (Pair u v) ≡ contents b (Pair u v)
-  -- where none of 1 to 6 applies, a revision over 255 gets 14 if none of 7 to 9 applies, and a valid message is taken exactly if it is later than its pair's last
-  pub fourteen : (b : Board) (m : Message) → list-refusal b 0 [] ≡ 0 → first-number ((7, refused-7 m) ∷ (8, refused-8 (b .head) m) ∷ (9, refused-9 (m .stamp)) ∷ []) ≡ 0 →
-      255 < m .revision → board-message b m .answer .code ≡ 14
+  -- where none of 1 to 6 applies: 14 for a revision over 255, if none of 7 to 9 applies; and a valid message is taken exactly if it is later than its pair's last
+  pub fourteen : (b : Board) (m : Message) → list-refusal b 0 [] ≡ 0 →
+      first-number ((7, refused-7 m) ∷ (8, refused-8 (b .head) m) ∷ (9, refused-9 (m .stamp)) ∷ []) ≡ 0 → 255 < m .revision → board-message b m .answer .code ≡ 14
   pub taken : (b : Board) (m : Message) → list-refusal b 0 [] ≡ 0 → first-number (valid-cases (b .head) m) ≡ 0 →
       (board-message b m .answer .code ≡ 0) ↔ T (later (entry m) (contents b (slot m)))
 

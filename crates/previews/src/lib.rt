@@ -31,11 +31,11 @@ pub fn preview(
 ) -> Previewed
     ensures { λ r. ⌜
         answered (r .answer)
-        (lent (r .head) (now («spare_operators» .exit)) (now («spare_rides» .exit)) (now («spare_stamps» .exit)) (now («spare_revisions» .exit))
-        (now («spare_index» .exit)))
+        (lent (r .head) (now («spare_operators» .exit)) (now («spare_rides» .exit)) (now («spare_stamps» .exit))
+        (now («spare_revisions» .exit)) (now («spare_index» .exit)))
         ≡ board-preview (lent head (now (operators .entry)) (now (rides .entry)) (now (stamps .entry)) (now (revisions .entry)) (now (index .entry))) message
-        (lent «spare_head» (now («spare_operators» .entry)) (now («spare_rides» .entry)) (now («spare_stamps» .entry)) (now («spare_revisions» .entry))
-        (now («spare_index» .entry)))
+        (lent «spare_head» (now («spare_operators» .entry)) (now («spare_rides» .entry)) (now («spare_stamps» .entry))
+        (now («spare_revisions» .entry)) (now («spare_index» .entry)))
         ⌝ }
 {
     let number = message_refusals::preview_number(
