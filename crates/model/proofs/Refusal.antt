@@ -173,20 +173,18 @@ module _ (h : Head) (m : Message) where
 
   pub valid-none : first-number (valid-cases h m) ≡ 0 → Valid h m
   valid-none e =
-      let t7 = first-none 6 (refused-7 m) _ e in
-      let t8 = first-none 7 (refused-8 h m) _ (t7 .1) in
-      let t9 = first-none 8 (refused-9 (m .stamp)) _ (t8 .1) in
-      let t14 = first-none 13 (refused-14 m) [] (t9 .1) in
-      let n7 = t7 .0 in
-      let n8 = t8 .0 in
-      let kind : (C : Type 0) → (m .kind ≡ 1 → C) → (m .kind ≡ 2 → C) → C = λ C f g. by-test (eqb (m .kind) 1) (λ t. f (eqb→eq (m .kind) 1 t)) (λ o. by-test (eqb (m .kind) 2) (λ t. g (eqb→eq (m .kind) 2 t)) (λ p. absurd (n7 (not-T (eqb (m .kind) 1 || eqb (m .kind) 2) (λ t. or-cases (eqb (m .kind) 1) (eqb (m .kind) 2) t o p))))) in
+      let n7 = first-none 6 (refused-7 m) _ e in
+      let n8 = first-none 7 (refused-8 h m) _ (n7 .1) in
+      let n9 = first-none 8 (refused-9 (m .stamp)) _ (n8 .1) in
+      let n14 = first-none 13 (refused-14 m) [] (n9 .1) in
+      let kind : (C : Type 0) → (m .kind ≡ 1 → C) → (m .kind ≡ 2 → C) → C = λ C f g. by-test (eqb (m .kind) 1) (λ t. f (eqb→eq (m .kind) 1 t)) (λ o. by-test (eqb (m .kind) 2) (λ t. g (eqb→eq (m .kind) 2 t)) (λ p. absurd (n7 .0 (not-T (eqb (m .kind) 1 || eqb (m .kind) 2) (λ t. or-cases (eqb (m .kind) 1) (eqb (m .kind) 2) t o p))))) in
       record {
         kind-low = kind (1 ≤ m .kind) (λ e. omega arith) (λ e. omega arith);
         kind-high = kind (m .kind ≤ 2) (λ e. omega arith) (λ e. omega arith);
-        operator = elim (decLt (m .operator) (h .operators)) [ yes l ↦ l | no l ↦ absurd (n8 (or-left (leb (h .operators) (m .operator)) (leb (h .rides) (m .ride)) (le→leb (h .operators) (m .operator) (omega arith)))) ];
-        ride = elim (decLt (m .ride) (h .rides)) [ yes l ↦ l | no l ↦ absurd (n8 (or-right (leb (h .operators) (m .operator)) (leb (h .rides) (m .ride)) (le→leb (h .rides) (m .ride) (omega arith)))) ];
-        stamp = elim (decLe 1 (m .stamp)) [ yes l ↦ l | no l ↦ absurd (t9 .0 (subst (λ (x : ℕ). T (eqb x 0)) (let e : 0 ≡ m .stamp = omega arith in e) (eqb-refl 0))) ];
-        revision = enough 255 (m .revision) (t14 .0);
+        operator = elim (decLt (m .operator) (h .operators)) [ yes l ↦ l | no l ↦ absurd (n8 .0 (or-left (leb (h .operators) (m .operator)) (leb (h .rides) (m .ride)) (le→leb (h .operators) (m .operator) (omega arith)))) ];
+        ride = elim (decLt (m .ride) (h .rides)) [ yes l ↦ l | no l ↦ absurd (n8 .0 (or-right (leb (h .operators) (m .operator)) (leb (h .rides) (m .ride)) (le→leb (h .rides) (m .ride) (omega arith)))) ];
+        stamp = elim (decLe 1 (m .stamp)) [ yes l ↦ l | no l ↦ absurd (n9 .0 (subst (λ (x : ℕ). T (eqb x 0)) (let e : 0 ≡ m .stamp = omega arith in e) (eqb-refl 0))) ];
+        revision = enough 255 (m .revision) (n14 .0);
       }
 
 -- ---- message and list

@@ -166,20 +166,19 @@ abbrev told : Board → List Message → List ℕ
 told b [] = getD (b .part Stamps) 0 0 ∷ getD (b .part Revisions) 0 0 ∷ b .head .pairs ∷ []
 told b (m ∷ ms) = board-message b m .answer .code ∷ told (board-message b m .board) ms
 
--- the board built at stamp 5, with a revision that no message has at every pair
-abbrev strange : Board
-strange =
+-- the board built at stamp 5, with revision 300 stored for every pair
+abbrev stored-300 : Board
+stored-300 =
     let b = built-at 5 in
     lent (b .head) (b .part Operators) (b .part Rides) (b .part Stamps) (replicate 12 300) (b .part Index)
 
--- revisions, by hand, on the board built at stamp 5, which has 7 pairs and (0,0) among them: a message for it is later than stamp 5,
--- revision 0, a grant.
+-- revisions, by hand, on the board built at stamp 5. It has 7 pairs, (0,0) among them, whose last is a grant of stamp 5 and revision 0.
 -- A build writes 0. Two corrections of stamp 6, a withdrawal of revision 1 and a grant of revision 2, in both orders: the grant stays.
 -- A grant and a withdrawal of stamp 6 and revision 1: the withdrawal is taken after the grant, and the grant is not taken after it.
 -- Revision 255 is taken, 256 gets 14. At the build's own stamp a grant of revision 0 gets 10, a withdrawal is taken, and so is a grant of
 -- revision 1. The stamp decides first: revision 0 of stamp 6 after revision 255 of stamp 5, and revision 255 of stamp 4 gets 10.
 -- Revision 256 with kind 3 gets 7, with operator 4 gets 8, with stamp 0 gets 9, and with stamp 4, where 10 applies too, 14.
--- Where 300 is stored, revision 255 of stamp 5 gets 10, and stamp 6 is taken.
+-- Where 300 is stored, revision 255 of stamp 5 gets 10, and revision 0 of stamp 6 is taken.
 unfoldable pub revision-samples : List (List ℕ × List ℕ)
 revision-samples =
     (built-at 5 .part Revisions, replicate 12 0) ∷
@@ -198,7 +197,7 @@ revision-samples =
     ) ∷
     (told (built-at 5) (for-0-0 1 256 0 ∷ []), 9 ∷ 5 ∷ 0 ∷ 7 ∷ []) ∷
     (told (built-at 5) (for-0-0 1 256 4 ∷ []), 14 ∷ 5 ∷ 0 ∷ 7 ∷ []) ∷
-    (told strange (for-0-0 2 255 5 ∷ for-0-0 2 0 6 ∷ []), 10 ∷ 0 ∷ 6 ∷ 0 ∷ 6 ∷ []) ∷
+    (told stored-300 (for-0-0 2 255 5 ∷ for-0-0 2 0 6 ∷ []), 10 ∷ 0 ∷ 6 ∷ 0 ∷ 6 ∷ []) ∷
     []
 
 -- in each row of a table the two lists are equal
