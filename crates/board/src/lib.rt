@@ -30,7 +30,7 @@ pub extern "C" fn board_build(
     builds::build(head, operators, rides, start, stamps, revisions, index)
 }
 
-// Sets a mark to 1 exactly if the level in row alpha is at least beta, and answers the counts of operators and rides marked.
+// Marks who is in cover (alpha, beta) by the levels of the index, and answers the counts of operators and rides marked.
 #[no_mangle]
 pub extern "C" fn board_query(
     head: Head,

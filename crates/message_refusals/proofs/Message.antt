@@ -36,31 +36,30 @@ table-accepted h short operators rides cs e a b =
       ordered = n5 .0;
     }
 
+-- the number behind those of a pair table
+abbrev six : Board → List (ℕ × Bool)
+six b = (6, refused-6 b) ∷ []
+
 -- 1 to 6, as the code goes through them
 module _ (b : Board) (short : Bool) (k : ℕ) (e : k ≡ first-number (table-cases (b .head) short (b .part Operators) (b .part Rides))) where
-  abbrev six : List (ℕ × Bool)
-  six = (6, refused-6 b) ∷ []
+  pub stamped-table : k ≢ 0 → k ≡ first-number (table-cases (b .head) short (b .part Operators) (b .part Rides) ++ six b)
+  stamped-table n = table-first (b .head) short (b .part Operators) (b .part Rides) (six b) k e n
 
-  pub stamped-table : k ≢ 0 → k ≡ first-number (table-cases (b .head) short (b .part Operators) (b .part Rides) ++ six)
-  stamped-table n = table-first (b .head) short (b .part Operators) (b .part Rides) six k e n
+  pub stamped-6 : k ≡ 0 → refused-6 b ≡ true → 6 ≡ first-number (table-cases (b .head) short (b .part Operators) (b .part Rides) ++ six b)
+  stamped-6 z t = sym (first-here 6 (refused-6 b) [] (subst T (sym t) tt)) ∙ table-rest (b .head) short (b .part Operators) (b .part Rides) (six b) k e z
 
-  pub stamped-6 : k ≡ 0 → refused-6 b ≡ true → 6 ≡ first-number (table-cases (b .head) short (b .part Operators) (b .part Rides) ++ six)
-  stamped-6 z t = sym (first-here 6 (refused-6 b) [] (subst T (sym t) tt)) ∙ table-rest (b .head) short (b .part Operators) (b .part Rides) six k e z
-
-  pub stamped-0 : k ≡ 0 → refused-6 b ≡ false → 0 ≡ first-number (table-cases (b .head) short (b .part Operators) (b .part Rides) ++ six)
-  stamped-0 z t = sym (first-skip 6 (refused-6 b) [] (λ x. subst T t x) ∙ first-nil) ∙ table-rest (b .head) short (b .part Operators) (b .part Rides) six k e z
+  pub stamped-0 : k ≡ 0 → refused-6 b ≡ false → 0 ≡ first-number (table-cases (b .head) short (b .part Operators) (b .part Rides) ++ six b)
+  stamped-0 z t = sym (first-skip 6 (refused-6 b) [] (λ x. subst T t x) ∙ first-nil) ∙ table-rest (b .head) short (b .part Operators) (b .part Rides) (six b) k e z
 
 -- where neither a part of a board nor anything else is too short, each part is long enough
 pub either-long : (b : Board) (other : Bool) → (board-short b || other) ≡ false → (p : Part) → places (b .head) p ≤ length (b .part p)
 either-long b other e = board-long b (λ t. subst T e (or-left (board-short b) other t))
 
 -- where none of 1 to 6 applies to a board that is long enough unless a part is said to be too short, a message can be looked at
-module _ (b : Board) (short : Bool) (long : short ≡ false → (p : Part) → places (b .head) p ≤ length (b .part p)) where
-  pub board-ready : first-number (board-cases b short) ≡ 0 → AcceptedPairs (b .head) (b .part Operators) (b .part Rides) × (pair-places (b .head) ≤ length (b .part Stamps)) × (pair-places (b .head) ≤ length (b .part Revisions))
-  board-ready e =
-      let six : List (ℕ × Bool) = (6, refused-6 b) ∷ [] in
-      let l = long (test-false short (table-long (b .head) short (b .part Operators) (b .part Rides) six e)) in
-      (table-accepted (b .head) short (b .part Operators) (b .part Rides) six e (l Operators) (l Rides), l Stamps, l Revisions)
+pub board-ready : (b : Board) (short : Bool) → (short ≡ false → (p : Part) → places (b .head) p ≤ length (b .part p)) → first-number (board-cases b short) ≡ 0 → AcceptedPairs (b .head) (b .part Operators) (b .part Rides) × (pair-places (b .head) ≤ length (b .part Stamps)) × (pair-places (b .head) ≤ length (b .part Revisions))
+board-ready b short long e =
+    let l = long (test-false short (table-long (b .head) short (b .part Operators) (b .part Rides) (six b) e)) in
+    (table-accepted (b .head) short (b .part Operators) (b .part Rides) (six b) e (l Operators) (l Rides), l Stamps, l Revisions)
 
 -- ---- 7 to 9 and 14
 

@@ -1,4 +1,4 @@
-// Document 01's numbers of a message, a preview and a message list: the first that applies, 0 if none does.
+// The numbers of documents 01 and 02 of a message, a preview and a message list: the first that applies, 0 if none does.
 ghost use mathlib.Core.Path.{_≡_};
 ghost use mathlib.Core.Bool.{Bool, false, _||_};
 ghost use mathlib.Core.List.{List, _++_};

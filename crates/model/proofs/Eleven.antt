@@ -37,7 +37,7 @@ first-lacks k z (c ∷ cs) w e =
 
 -- ---- the number of a call is that of its refusal
 
-build-code : (b : Board) (start k : ℕ) → build-refusal b start ≡ k → board-build b start .code ≡ k
+pub build-code : (b : Board) (start k : ℕ) → build-refusal b start ≡ k → board-build b start .code ≡ k
 unfolding board-build
 build-code b start zero e = rw (e, board-build)
 build-code b start (suc k) e = rw (e, board-build)

@@ -1,8 +1,8 @@
 -- What document 02, 2.3, says of revisions holds of the calls. Assumes nothing.
-use mathlib.Core.Path.{_≡_, sym, ap, _∙_}
+use mathlib.Core.Path.{_≡_, refl, sym, ap, _∙_}
 use mathlib.Core.Logic.{_↔_}
 use mathlib.Core.List.{[], _∷_}
-use Prim.Native.Nat.{ℕ, zero, suc, _<_}
+use Prim.Native.Nat.{ℕ, _<_}
 use native.Mathlib.Omega.{arith}
 use lib.Dec.{T, T-not, not-T}
 use lib.ListN.{length, drop}
@@ -10,13 +10,14 @@ use Rattle.model.specs.declared.Message.{Message}
 use Rattle.model.specs.Layout.{Parts, Board, board-graph}
 use Rattle.model.specs.Contents.{Pair, Slot, Entry, Contents, later, slot, entry, put, contents, words}
 use Rattle.model.specs.Refusal.{refused-7, refused-8, refused-9, refused-10, refused-14, first-number, valid-cases, message-refusal, build-refusal, list-refusal}
-use Rattle.model.specs.Calls.{BuildOutcome, start-contents, built, board-build}
+use Rattle.model.specs.Calls.{start-contents, built, board-build}
 use Rattle.model.specs.Message.{MessageOutcome, board-message}
 use Rattle.model.specs.Demand.{RevisionLaws}
 use Rattle.model.proofs.Count.{by-test}
-use Rattle.model.proofs.Chain.{first-nil, first-here, first-skip, first-none, lt-less}
+use Rattle.model.proofs.Chain.{first-nil, first-here, first-skip, first-behind, lt-less}
 use Rattle.model.proofs.Refusal.{Accepted, valid-none, list-none, taken-none, message-accepted, message-valid}
 use Rattle.model.proofs.Contents.{put-same, put-other, Within, contents-of}
+use Rattle.model.proofs.Eleven.{build-code}
 use Rattle.model.proofs.Taken.{valid-within, message-code, message-taken, says-after}
 
 -- ---- a build
@@ -28,19 +29,12 @@ module _ (b : Board) (start : ℕ) where
   abbrev behind : Parts
   behind p = drop (length (words (b .head) started p)) (b .part p)
 
-  abbrev outcome : ℕ → BuildOutcome
-  outcome zero = record { code = 0; board = built b start }
-  outcome (suc k) = record { code = suc k; board = b }
-
-  outcome-says : (k : ℕ) → outcome k .code ≡ 0 → (t : Slot) → Within (b .head) t → contents (outcome k .board) t ≡ started t
-  unfolding built
-  outcome-says zero z = contents-of (b .head) started behind
-  outcome-says (suc k) z = absurd (let y : ⊥ = omega (arith, z) in y)
-
   -- a build that isn't refused says the start of every slot in range
   built-says : board-build b start .code ≡ 0 → (t : Slot) → Within (b .head) t → contents (board-build b start .board) t ≡ started t
-  unfolding board-build
-  built-says = outcome-says (build-refusal b start)
+  unfolding board-build built
+  built-says e t w =
+      let none : build-refusal b start ≡ 0 = sym (build-code b start _ refl) ∙ e in
+      rw (none, board-build) (contents-of (b .head) started behind t w)
 
 -- ---- a taken message
 
@@ -62,11 +56,8 @@ module _ (b : Board) (m : Message) (ready : list-refusal b 0 [] ≡ 0) where
 
   gives-14 : first-number ((7, refused-7 m) ∷ (8, refused-8 (b .head) m) ∷ (9, refused-9 (m .stamp)) ∷ []) ≡ 0 → 255 < m .revision → board-message b m .answer .code ≡ 14
   gives-14 e l =
-      let n7 = first-none 6 (refused-7 m) _ e in
-      let n8 = first-none 7 (refused-8 (b .head) m) _ (n7 .1) in
-      let n9 = first-none 8 (refused-9 (m .stamp)) [] (n8 .1) in
       message-code b m ∙ message-accepted b m accepted ∙
-      first-skip 7 (refused-7 m) _ (n7 .0) ∙ first-skip 8 (refused-8 (b .head) m) _ (n8 .0) ∙ first-skip 9 (refused-9 (m .stamp)) _ (n9 .0) ∙
+      first-behind ((14, refused-14 m) ∷ (10, refused-10 b m) ∷ []) ((7, refused-7 m) ∷ (8, refused-8 (b .head) m) ∷ (9, refused-9 (m .stamp)) ∷ []) (omega arith, (omega arith, (omega arith, tt))) e ∙
       first-here 14 (refused-14 m) _ (lt-less 255 (m .revision) l)
 
   module _ (none : first-number (valid-cases (b .head) m) ≡ 0) where

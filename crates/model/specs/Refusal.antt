@@ -113,7 +113,7 @@ board-cases b too-short =
 abbrev pub valid-cases : Head → Message → List (ℕ × Bool)
 valid-cases h m = (7, refused-7 m) ∷ (8, refused-8 h m) ∷ (9, refused-9 (m .stamp)) ∷ (14, refused-14 m) ∷ []
 
--- these and then 10, of a message on a board
+-- 7 to 9, 14 and then 10, of a message on a board
 abbrev pub message-cases : Board → Message → List (ℕ × Bool)
 message-cases b m = valid-cases (b .head) m ++ (10, refused-10 b m) ∷ []
 

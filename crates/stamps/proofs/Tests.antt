@@ -15,7 +15,7 @@ use Rattle.model.specs.Contents.{Entry, slot, contents, pair-place}
 use Rattle.model.specs.Refusal.{refused-6, refused-10}
 use Rattle.model.proofs.Count.{by-test, test-true, test-false, some-holds, some-witness}
 use Rattle.model.proofs.Chain.{enough}
-use Rattle.stamps.specs.Stamps.{newer-of}
+use Rattle.stamps.specs.Stamps.{exceeds}
 
 -- ---- 6
 
@@ -36,27 +36,27 @@ module _ (b : Board) where
 
 -- ---- 10
 
--- a stamp and a revision are newer by the stamp, or by the revision
+-- a stamp and a revision exceed others by the stamp, or by the revision
 module _ (s r s′ r′ : ℕ) where
-  pub newer-stamp : s ≢ s′ → ltb s′ s ≡ newer-of s r s′ r′
-  unfolding newer-of
-  newer-stamp n = by-test (ltb s′ s) (λ t. rw (test-true (ltb s′ s) t)) (λ f. rw (test-false (ltb s′ s) f, ne-eqb s s′ n))
+  pub exceeds-stamp : s ≢ s′ → ltb s′ s ≡ exceeds s r s′ r′
+  unfolding exceeds
+  exceeds-stamp n = by-test (ltb s′ s) (λ t. rw (test-true (ltb s′ s) t)) (λ f. rw (test-false (ltb s′ s) f, ne-eqb s s′ n))
 
-  pub newer-revision : s ≡ s′ → ltb r′ r ≡ newer-of s r s′ r′
-  unfolding newer-of
-  newer-revision e = rw (le-ltb s′ s (omega arith), eq-eqb s s′ e)
+  pub exceeds-revision : s ≡ s′ → ltb r′ r ≡ exceeds s r s′ r′
+  unfolding exceeds
+  exceeds-revision e = rw (le-ltb s′ s (omega arith), eq-eqb s s′ e)
 
-  pub newer-cases {ℓ} : {C : Type ℓ} → newer-of s r s′ r′ ≡ true → (s′ < s → C) → (s ≡ s′ → r′ < r → C) → C
-  newer-cases e f g =
+  exceeds-cases {ℓ} : {C : Type ℓ} → exceeds s r s′ r′ ≡ true → (s′ < s → C) → (s ≡ s′ → r′ < r → C) → C
+  exceeds-cases e f g =
       elim (ℕ-discrete s s′) [
-        | yes q ↦ g q (ltb→lt r′ r (subst T (sym (newer-revision q ∙ e)) tt))
-        | no n ↦ f (ltb→lt s′ s (subst T (sym (newer-stamp n ∙ e)) tt))
+        | yes q ↦ g q (ltb→lt r′ r (subst T (sym (exceeds-revision q ∙ e)) tt))
+        | no n ↦ f (ltb→lt s′ s (subst T (sym (exceeds-stamp n ∙ e)) tt))
       ]
 
-  not-newer : newer-of s r s′ r′ ≡ false → (s ≤ s′) × (s ≡ s′ → r ≤ r′)
-  not-newer e = (
-    elim (ℕ-discrete s s′) [ yes q ↦ omega arith | no n ↦ enough s′ s (λ t. subst T (newer-stamp n ∙ e) t) ],
-    λ q. enough r′ r (λ t. subst T (newer-revision q ∙ e) t),
+  exceeds-not : exceeds s r s′ r′ ≡ false → (s ≤ s′) × (s ≡ s′ → r ≤ r′)
+  exceeds-not e = (
+    elim (ℕ-discrete s s′) [ yes q ↦ omega arith | no n ↦ enough s′ s (λ t. subst T (exceeds-stamp n ∙ e) t) ],
+    λ q. enough r′ r (λ t. subst T (exceeds-revision q ∙ e) t),
   )
 
 module _ (b : Board) (m : Message) where
@@ -64,27 +64,27 @@ module _ (b : Board) (m : Message) where
   abbrev last : Entry
   last = contents b (slot m)
 
-  pub newer-later : newer-of (m .stamp) (m .revision) (last .stamp) (last .revision) ≡ true → false ≡ refused-10 b m
+  pub exceeds-later : exceeds (m .stamp) (m .revision) (last .stamp) (last .revision) ≡ true → false ≡ refused-10 b m
   unfolding refused-10
-  newer-later e =
-      newer-cases (m .stamp) (m .revision) (last .stamp) (last .revision) e
+  exceeds-later e =
+      exceeds-cases (m .stamp) (m .revision) (last .stamp) (last .revision) e
       (λ l. rw (lt-ltb (last .stamp) (m .stamp) l))
       (λ q l. rw (le-ltb (last .stamp) (m .stamp) (omega arith), eq-eqb (m .stamp) (last .stamp) q, lt-ltb (last .revision) (m .revision) l))
 
-  pub older-earlier : newer-of (last .stamp) (last .revision) (m .stamp) (m .revision) ≡ true → true ≡ refused-10 b m
+  pub exceeded-earlier : exceeds (last .stamp) (last .revision) (m .stamp) (m .revision) ≡ true → true ≡ refused-10 b m
   unfolding refused-10
-  older-earlier e =
-      newer-cases (last .stamp) (last .revision) (m .stamp) (m .revision) e
+  exceeded-earlier e =
+      exceeds-cases (last .stamp) (last .revision) (m .stamp) (m .revision) e
       (λ l. rw (le-ltb (last .stamp) (m .stamp) (omega arith), ne-eqb (m .stamp) (last .stamp) (omega arith)))
       (λ q l. rw (le-ltb (last .stamp) (m .stamp) (omega arith), eq-eqb (m .stamp) (last .stamp) (sym q), le-ltb (last .revision) (m .revision) (omega arith), ne-eqb (m .revision) (last .revision) (omega arith)))
 
   -- at equal stamps and revisions the kinds decide
-  module _ (n : newer-of (m .stamp) (m .revision) (last .stamp) (last .revision) ≡ false) (n′ : newer-of (last .stamp) (last .revision) (m .stamp) (m .revision) ≡ false) where
+  module _ (n : exceeds (m .stamp) (m .revision) (last .stamp) (last .revision) ≡ false) (n′ : exceeds (last .stamp) (last .revision) (m .stamp) (m .revision) ≡ false) where
     tied : refused-10 b m ≡ not (not (eqb (m .kind) 1) && board-graph b .cleared (m .operator) (m .ride))
     unfolding refused-10
     tied =
-        let low = not-newer (m .stamp) (m .revision) (last .stamp) (last .revision) n in
-        let high = not-newer (last .stamp) (last .revision) (m .stamp) (m .revision) n′ in
+        let low = exceeds-not (m .stamp) (m .revision) (last .stamp) (last .revision) n in
+        let high = exceeds-not (last .stamp) (last .revision) (m .stamp) (m .revision) n′ in
         let q : m .stamp ≡ last .stamp = omega (arith, low .0, high .0) in
         rw (le-ltb (last .stamp) (m .stamp) (low .0), eq-eqb (m .stamp) (last .stamp) q, le-ltb (last .revision) (m .revision) (low .1 q), eq-eqb (m .revision) (last .revision) (omega (arith, low .1 q, high .1 (sym q))))
 

@@ -1,4 +1,4 @@
--- Inner contracts: the stamps of listed pairs, word by word, and which of two stamps and revisions is newer.
+-- Inner contracts: the stamps of listed pairs, word by word, and when a stamp and a revision exceed others.
 use mathlib.Core.Path.{_≡_}
 use mathlib.Core.List.{List}
 use mathlib.Core.Bool.{Bool, true, false, _&&_, _||_}
@@ -22,6 +22,6 @@ pub record Stamped (is-listed : ℕ → ℕ → Bool) (n m start : ℕ) (old new
 unfoldable pub start-stamps : Graph → ℕ → List ℕ
 start-stamps g start = rows (g .operators) (g .rides) (λ u v. elim (g .cleared u v) [ true ↦ start | false ↦ 0 ])
 
--- a stamp and a revision are newer than others: larger stamp; at equal stamps larger revision
-unfoldable pub newer-of : ℕ → ℕ → ℕ → ℕ → Bool
-newer-of stamp revision stamp′ revision′ = ltb stamp′ stamp || (eqb stamp stamp′ && ltb revision′ revision)
+-- a stamp and a revision exceed others: larger stamp; at equal stamps larger revision
+unfoldable pub exceeds : ℕ → ℕ → ℕ → ℕ → Bool
+exceeds stamp revision stamp′ revision′ = ltb stamp′ stamp || (eqb stamp stamp′ && ltb revision′ revision)

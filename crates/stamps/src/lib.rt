@@ -8,7 +8,7 @@ ghost use Rattle.model.specs.Layout.{lent, pair-places, over, listed, graph};
 ghost use Rattle.model.specs.Contents.{pair-place};
 ghost use Rattle.model.specs.Refusal.{refused-6, refused-10};
 ghost use Rattle.pairs.specs.Accepted.{AcceptedPairs};
-ghost use Rattle.stamps.specs.Stamps.{Stamped, start-stamps, newer-of};
+ghost use Rattle.stamps.specs.Stamps.{Stamped, start-stamps, exceeds};
 use model::Head;
 use model::Message;
 
@@ -66,9 +66,9 @@ pub fn missing(head: Head, operators: &[u16], rides: &[u16], stamps: &[u32]) -> 
     false
 }
 
-// Whether a stamp and a revision are newer than others.
-fn newer(stamp: u32, revision: u16, other: u32, other_revision: u16) -> bool
-    ensures { λ r. ⌜ r ≡ newer-of stamp revision other «other_revision» ⌝ }
+// Whether a stamp and a revision exceed others.
+fn exceeds(stamp: u32, revision: u16, other: u32, other_revision: u16) -> bool
+    ensures { λ r. ⌜ r ≡ exceeds stamp revision other «other_revision» ⌝ }
 {
     if stamp == other {
         return other_revision < revision;
@@ -97,10 +97,10 @@ pub fn not_later(
     let at = place(head, message.operator, message.ride);
     let stamp = stamps[at];
     let revision = revisions[at];
-    if newer(message.stamp, message.revision, stamp, revision) {
+    if exceeds(message.stamp, message.revision, stamp, revision) {
         return false;
     }
-    if newer(stamp, revision, message.stamp, message.revision) {
+    if exceeds(stamp, revision, message.stamp, message.revision) {
         return true;
     }
     if message.kind == 1 {

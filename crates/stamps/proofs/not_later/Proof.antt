@@ -1,11 +1,11 @@
--- `stamps::not_later` meets its contract: stamps and revisions are compared, and where neither is newer the kinds. Assumes nothing.
+-- `stamps::not_later` meets its contract: stamps and revisions are compared, and where neither exceeds the other the kinds. Assumes nothing.
 use borrow.Author.Needs.{needs}
 use mathlib.Core.Path.{ap, sym, _∙_}
 use mathlib.Core.Bool.{not}
 use native.Mathlib.Omega.{arith}
 use Rattle.model.specs.Layout.{lent}
 use Rattle.tables.proofs.Place.{place-lt}
-use Rattle.stamps.proofs.Tests.{newer-later, older-earlier, same-grant, same-withdrawal}
+use Rattle.stamps.proofs.Tests.{exceeds-later, exceeded-earlier, same-grant, same-withdrawal}
 use Rattle.stamps.proofs.not_later.Statement.{statement}
 use Rattle.stamps.proofs.not_later.Tie as tie
 
@@ -32,28 +32,28 @@ shared-slice-read-revision c = let s = c .before .before .before .before .before
     let h = s .args .head in
     omega (arith, c .before .before .place .ensures, place-lt (h .operators) (h .rides) _ _ (s .pre .3) (s .pre .4) _ (s .pre .2))
 
-newer-requires : tie.Need-newer-requires
-newer-requires c κs = search needs
+exceeds-requires : tie.Need-exceeds-requires
+exceeds-requires c κs = search needs
 
 returns : tie.Need-returns
 returns c = let a = c .before .before .before .before .before .before .before .before .before .args in
-    let newer = rw (c .before .before .before .before .place .ensures) at (c .before .newer .ensures) in
-    λ index. newer-later (lent (a .head) (a .operators .now) (a .rides .now) (a .stamps .now) (a .revisions .now) index) (a .message) (sym newer ∙ c .if1 .taken)
+    let above = rw (c .before .before .before .before .place .ensures) at (c .before .exceeds .ensures) in
+    λ index. exceeds-later (lent (a .head) (a .operators .now) (a .rides .now) (a .stamps .now) (a .revisions .now) index) (a .message) (sym above ∙ c .if1 .taken)
 
-newer-requires-2 : tie.Need-newer-requires-2
-newer-requires-2 c κs = search needs
+exceeds-requires-2 : tie.Need-exceeds-requires-2
+exceeds-requires-2 c κs = search needs
 
 returns-2 : tie.Need-returns-2
 returns-2 c = let a = c .before .before .before .before .before .before .before .before .before .before .before .args in
-    let older = rw (c .before .before .before .before .before .before .place .ensures) at (c .before .newer2 .ensures) in
-    λ index. older-earlier (lent (a .head) (a .operators .now) (a .rides .now) (a .stamps .now) (a .revisions .now) index) (a .message) (sym older ∙ c .if2 .taken)
+    let below = rw (c .before .before .before .before .before .before .place .ensures) at (c .before .exceeds2 .ensures) in
+    λ index. exceeded-earlier (lent (a .head) (a .operators .now) (a .rides .now) (a .stamps .now) (a .revisions .now) index) (a .message) (sym below ∙ c .if2 .taken)
 
 returns-3 : tie.Need-returns-3
 returns-3 c = let a = c .before .before .before .before .before .before .before .before .before .before .before .before .before .args in
     let e = c .before .before .before .before .before .before .before .before .place .ensures in
-    let newer = rw e at (c .before .before .before .before .before .newer .ensures) in
-    let older = rw e at (c .before .before .before .newer2 .ensures) in
-    λ index. same-grant (lent (a .head) (a .operators .now) (a .rides .now) (a .stamps .now) (a .revisions .now) index) (a .message) (sym newer ∙ c .before .before .before .before .if1 .left) (sym older ∙ c .before .before .if2 .left) (omega arith)
+    let above = rw e at (c .before .before .before .before .before .exceeds .ensures) in
+    let below = rw e at (c .before .before .before .exceeds2 .ensures) in
+    λ index. same-grant (lent (a .head) (a .operators .now) (a .rides .now) (a .stamps .now) (a .revisions .now) index) (a .message) (sym above ∙ c .before .before .before .before .if1 .left) (sym below ∙ c .before .before .if2 .left) (omega arith)
 
 is-listed-requires : tie.Need-is-listed-requires
 is-listed-requires c κs = search needs
@@ -61,9 +61,9 @@ is-listed-requires c κs = search needs
 returns-4 : tie.Need-returns-4
 returns-4 c = let a = c .before .before .before .before .before .before .before .before .before .before .before .before .before .before .args in
     let e = c .before .before .before .before .before .before .before .before .before .place .ensures in
-    let newer = rw e at (c .before .before .before .before .before .before .newer .ensures) in
-    let older = rw e at (c .before .before .before .before .newer2 .ensures) in
-    λ index. ap not (c .is-listed .ensures) ∙ same-withdrawal (lent (a .head) (a .operators .now) (a .rides .now) (a .stamps .now) (a .revisions .now) index) (a .message) (sym newer ∙ c .before .before .before .before .before .if1 .left) (sym older ∙ c .before .before .before .if2 .left) (omega arith)
+    let above = rw e at (c .before .before .before .before .before .before .exceeds .ensures) in
+    let below = rw e at (c .before .before .before .before .exceeds2 .ensures) in
+    λ index. ap not (c .is-listed .ensures) ∙ same-withdrawal (lent (a .head) (a .operators .now) (a .rides .now) (a .stamps .now) (a .revisions .now) index) (a .message) (sym above ∙ c .before .before .before .before .before .if1 .left) (sym below ∙ c .before .before .before .if2 .left) (omega arith)
 
 pub not-later-spec : {M : Type 1} → statement M
 not-later-spec =
@@ -74,9 +74,9 @@ not-later-spec =
     shared-slice-read-stamp
     mul-revision
     shared-slice-read-revision
-    newer-requires
+    exceeds-requires
     returns
-    newer-requires-2
+    exceeds-requires-2
     returns-2
     returns-3
     is-listed-requires
