@@ -1,13 +1,13 @@
 -- A message entered: its stamp and revision stored and its pair added or removed are what the board then says. Assumes nothing.
 use mathlib.Core.Path.{_≡_, refl, sym, ap, ap₂, _∙_, subst}
 use mathlib.Core.Bool.{Bool, true, false, _&&_}
-use mathlib.Core.List.{List, [], _++_, map}
+use mathlib.Core.List.{List, [], map}
 use Prim.Native.Nat.{ℕ, _+_, _*_, _/_, _%_, _≤_, _<_}
 use native.Mathlib.Omega.{arith}
 use lib.Dec.{eqb}
 use lib.Arith.{digits-lt}
-use lib.ListN.{length, getD, set, take, drop, length-set, take-append-drop}
-use lib.Seq.{getD-take, getD-set-same, getD-set-other, length-take-le, drop-set-lt}
+use lib.ListN.{length, getD, set, length-set}
+use lib.Seq.{getD-set-same, getD-set-other, drop-set-lt}
 use Rattle.model.specs.declared.Head.{Head}
 use Rattle.model.specs.declared.Message.{Message}
 use Rattle.model.specs.Count.{rows}
@@ -15,9 +15,8 @@ use Rattle.model.specs.Graph.{Graph}
 use Rattle.model.specs.Layout.{lent, pair-places, over, sized}
 use Rattle.model.specs.Refusal.{first-number, message-cases}
 use Rattle.model.specs.Contents.{Slot, Pair, Entry, Contents, slot, entry, given, contents, pair-place, pair-numbers, padded, words}
-use Rattle.model.proofs.Count.{length-rows}
 use Rattle.model.proofs.Refusal.{cases-none}
-use Rattle.model.proofs.Pairs.{number-same, rows-only}
+use Rattle.model.proofs.Pairs.{number-same, rows-over}
 use Rattle.model.proofs.Contents.{by-slot, put-same, put-other}
 use Rattle.changes.specs.Change.{graph-with, Changed}
 use Rattle.entries.specs.Enter.{Enters, next, Entered}
@@ -56,12 +55,8 @@ module _ (h : Head) (m : Message) (operators rides stamps revisions : List ℕ) 
 
     words-set : set old place (f (entry m)) ≡ over (rows (h .operators) (h .rides) (λ u v. f (after (Pair u v)))) old
     words-set =
-        let l = set old place (f (entry m)) in
-        let g : ℕ → ℕ → ℕ = λ u v. f (after (Pair u v)) in
-        let enough : pair-places h ≤ length l = omega (arith, length-set old place (f (entry m))) in
-        let first = rows-only (h .operators) (h .rides) g (take (pair-places h) l) (length-take-le (pair-places h) l enough) (λ u v a b. getD-take (pair-places h) l (u * h .rides + v) 0 (digits-lt a b) ∙ word-at u v a b) in
-        sym (take-append-drop (pair-places h) l) ∙ ap₂ (λ (x y : List ℕ). x ++ y) first (drop-set-lt (pair-places h) old place (f (entry m)) place-inside) ∙
-        ap (λ (k : ℕ). rows (h .operators) (h .rides) g ++ drop k old) (sym (length-rows (h .rides) g (h .operators)))
+        rows-over (h .operators) (h .rides) (λ u v. f (after (Pair u v))) (set old place (f (entry m))) old (omega (arith, length-set old place (f (entry m)))) word-at
+        (drop-set-lt (pair-places h) old place (f (entry m)) place-inside)
 
   pub entered-done : (count : ℕ) (operators′ rides′ stamps′ revisions′ : List ℕ) → (stamps′ ≡ set stamps place (m .stamp)) × (revisions′ ≡ set revisions place (m .revision)) → Changed h operators rides (m .operator) (m .ride) (eqb (m .kind) 1) count operators′ rides′ → Entered h m operators rides stamps revisions count operators′ rides′ stamps′ revisions′
   unfolding words

@@ -9,12 +9,12 @@ use native.Mathlib.Omega.{arith}
 use native.Mathlib.Decide.{decLt, ℕ-discrete}
 use lib.Dec.{T, ltb, leb, eqb, ltb→lt, lt→ltb, leb→le, le→leb, eqb→eq, eqb-refl, T-not, not-T}
 use lib.Arith.{digits-lt, digits-div, digits-mod}
-use lib.ListN.{length, getD, take, replicate, length-append, length-map, length-replicate, List·getD-append}
-use lib.Seq.{getD-append-seam, take-suc, ext-getD}
+use lib.ListN.{length, getD, take, drop, replicate, length-append, length-map, length-replicate, take-append-drop, List·getD-append}
+use lib.Seq.{getD-append-seam, getD-take, length-take-le, take-suc, ext-getD}
 use Rattle.model.specs.declared.Head.{Head}
 use Rattle.model.specs.Count.{bit, count, values, rows, passing}
 use Rattle.model.specs.Graph.{Graph}
-use Rattle.model.specs.Layout.{pair-at, listed, sized, graph}
+use Rattle.model.specs.Layout.{over, pair-at, listed, sized, graph}
 use Rattle.model.specs.Refusal.{before, unordered, out-of-range, misplaced, refused-5}
 use Rattle.model.specs.Contents.{pair-numbers, padded}
 use Rattle.model.specs.Demand.{changed}
@@ -205,6 +205,12 @@ rows-only k w f l e s =
     let i = number-operator k w x b in
     let j = number-ride k w x b in
     subst (λ (z : ℕ). getD l z 0 ≡ getD (rows k w f) z 0) (div-add-mod' x w) (s (x / w) (x % w) i j ∙ sym (getD-rows w f k (x / w) (x % w) 0 i j)))
+
+-- a list with these values at the pairs' places, and behind them the words of an old one, is made of these rows over it
+pub rows-over : (k w : ℕ) (f : ℕ → ℕ → ℕ) (l old : List ℕ) → k * w ≤ length l → ((i j : ℕ) → i < k → j < w → getD l (i * w + j) 0 ≡ f i j) → drop (k * w) l ≡ drop (k * w) old → l ≡ over (rows k w f) old
+rows-over k w f l old long values rest =
+    let first = rows-only k w f (take (k * w) l) (length-take-le (k * w) l long) (λ i j a b. getD-take (k * w) l (i * w + j) 0 (digits-lt a b) ∙ values i j a b) in
+    sym (take-append-drop (k * w) l) ∙ ap₂ (λ (x y : List ℕ). x ++ y) first rest ∙ ap (λ (n : ℕ). rows k w f ++ drop n old) (sym (length-rows w f k))
 
 -- whether the pair of a number is cleared
 abbrev pub cleared-number : Graph → ℕ → Bool
