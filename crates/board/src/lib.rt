@@ -11,7 +11,7 @@ use model::Counts;
 use model::Head;
 use model::Peeled;
 
-// Zeroes the tails of the pair arrays and the revisions, stamps the listed pairs and fills the index.
+// Zeroes the tails of the pair arrays and the revisions, stamps the listed pairs, sets everybody on and in and fills the index.
 #[no_mangle]
 pub extern "C" fn board_build(
     head: Head,
@@ -21,27 +21,44 @@ pub extern "C" fn board_build(
     stamps: &mut [u32],
     revisions: &mut [u16],
     index: &mut [u16],
+    presence_stamps: &mut [u32],
+    presence_revisions: &mut [u16],
+    presence: &mut [u16],
 ) -> u16
     ensures { λ r. ⌜
-        build-left r (lent head (now (operators .exit)) (now (rides .exit)) (now (stamps .exit)) (now (revisions .exit)) (now (index .exit)))
-        ≡ board-build (lent head (now (operators .entry)) (now (rides .entry)) (now (stamps .entry)) (now (revisions .entry)) (now (index .entry))) start
+        build-left r (lent head (now (operators .exit)) (now (rides .exit)) (now (stamps .exit)) (now (revisions .exit)) (now (index .exit))
+        (now («presence_stamps» .exit)) (now («presence_revisions» .exit)) (now (presence .exit)))
+        ≡ board-build (lent head (now (operators .entry)) (now (rides .entry)) (now (stamps .entry)) (now (revisions .entry)) (now (index .entry))
+        (now («presence_stamps» .entry)) (now («presence_revisions» .entry)) (now (presence .entry))) start
         ⌝ }
 {
-    builds::build(head, operators, rides, start, stamps, revisions, index)
+    builds::build(
+        head,
+        operators,
+        rides,
+        start,
+        stamps,
+        revisions,
+        index,
+        presence_stamps,
+        presence_revisions,
+        presence,
+    )
 }
 
-// Marks who is in cover (alpha, beta) by the levels of the index, and answers the counts of operators and rides marked.
+// Marks who is present and in cover (alpha, beta) by the levels of the index, and answers the counts of operators and rides marked.
 #[no_mangle]
 pub extern "C" fn board_query(
     head: Head,
     index: &[u16],
+    presence: &[u16],
     alpha: u16,
     beta: u16,
     marks: &mut [u16],
 ) -> Counts
-    ensures { λ r. ⌜ queried r (now (marks .exit)) ≡ board-query head (now (index .entry)) alpha beta (now (marks .entry)) ⌝ }
+    ensures { λ r. ⌜ queried r (now (marks .exit)) ≡ board-query head (now (index .entry)) (now (presence .entry)) alpha beta (now (marks .entry)) ⌝ }
 {
-    queries::query(head, index, alpha, beta, marks)
+    queries::query(head, index, presence, alpha, beta, marks)
 }
 
 // Clears, one a step, the mark of the lowest-numbered operator that falls short, else ride, at most the allowed steps.
@@ -50,12 +67,16 @@ pub extern "C" fn board_peel(
     head: Head,
     operators: &[u16],
     rides: &[u16],
+    presence: &[u16],
     marks: &mut [u16],
     alpha: u16,
     beta: u16,
     steps: u16,
 ) -> Peeled
-    ensures { λ r. ⌜ peel-left r (now (marks .exit)) ≡ board-peel head (now (operators .entry)) (now (rides .entry)) (now (marks .entry)) alpha beta steps ⌝ }
+    ensures { λ r. ⌜
+        peel-left r (now (marks .exit))
+        ≡ board-peel head (now (operators .entry)) (now (rides .entry)) (now (presence .entry)) (now (marks .entry)) alpha beta steps
+        ⌝ }
 {
-    peels::peel(head, operators, rides, marks, alpha, beta, steps)
+    peels::peel(head, operators, rides, presence, marks, alpha, beta, steps)
 }

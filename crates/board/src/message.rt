@@ -16,16 +16,32 @@ pub extern "C" fn board_message(
     stamps: &mut [u32],
     revisions: &mut [u16],
     index: &mut [u16],
+    presence_stamps: &mut [u32],
+    presence_revisions: &mut [u16],
+    presence: &mut [u16],
     message: Message,
 ) -> Answer
     ensures { λ r. ⌜
-        answered r (lent (now (head .exit)) (now (operators .exit)) (now (rides .exit)) (now (stamps .exit)) (now (revisions .exit)) (now (index .exit)))
+        answered r (lent (now (head .exit)) (now (operators .exit)) (now (rides .exit)) (now (stamps .exit)) (now (revisions .exit)) (now (index .exit))
+        (now («presence_stamps» .exit)) (now («presence_revisions» .exit)) (now (presence .exit)))
         ≡ board-message
-        (lent (now (head .entry)) (now (operators .entry)) (now (rides .entry)) (now (stamps .entry)) (now (revisions .entry)) (now (index .entry)))
+        (lent (now (head .entry)) (now (operators .entry)) (now (rides .entry)) (now (stamps .entry)) (now (revisions .entry)) (now (index .entry))
+        (now («presence_stamps» .entry)) (now («presence_revisions» .entry)) (now (presence .entry)))
         message
         ⌝ }
 {
-    let d = messages::deliver(*head, message, operators, rides, stamps, revisions, index);
+    let d = messages::deliver(
+        *head,
+        message,
+        operators,
+        rides,
+        stamps,
+        revisions,
+        index,
+        presence_stamps,
+        presence_revisions,
+        presence,
+    );
     head.pairs = d.pairs;
     Answer {
         code: d.code,
@@ -42,14 +58,19 @@ pub extern "C" fn board_messages(
     stamps: &mut [u32],
     revisions: &mut [u16],
     index: &mut [u16],
+    presence_stamps: &mut [u32],
+    presence_revisions: &mut [u16],
+    presence: &mut [u16],
     messages: &[Message],
     answers: &mut [u16],
 ) -> u16
     ensures { λ r. ⌜
-        listed-out r (lent (now (head .exit)) (now (operators .exit)) (now (rides .exit)) (now (stamps .exit)) (now (revisions .exit)) (now (index .exit)))
+        listed-out r (lent (now (head .exit)) (now (operators .exit)) (now (rides .exit)) (now (stamps .exit)) (now (revisions .exit)) (now (index .exit))
+        (now («presence_stamps» .exit)) (now («presence_revisions» .exit)) (now (presence .exit)))
         (now (answers .exit))
         ≡ board-messages
-        (lent (now (head .entry)) (now (operators .entry)) (now (rides .entry)) (now (stamps .entry)) (now (revisions .entry)) (now (index .entry)))
+        (lent (now (head .entry)) (now (operators .entry)) (now (rides .entry)) (now (stamps .entry)) (now (revisions .entry)) (now (index .entry))
+        (now («presence_stamps» .entry)) (now («presence_revisions» .entry)) (now (presence .entry)))
         (now (messages .entry)) (now (answers .entry))
         ⌝ }
 {
@@ -61,6 +82,9 @@ pub extern "C" fn board_messages(
         stamps,
         revisions,
         index,
+        presence_stamps,
+        presence_revisions,
+        presence,
         answers,
     );
     let mut i = 0;
@@ -77,6 +101,9 @@ pub extern "C" fn board_messages(
             stamps,
             revisions,
             index,
+            presence_stamps,
+            presence_revisions,
+            presence,
             answers,
         );
         i += 1;

@@ -1,4 +1,4 @@
--- Inner contracts: a taken message adds its pair to the pair arrays, or removes it, where needed.
+-- Inner contracts: a taken message adds its pair to the pair arrays, or removes it, where needed, and zeros stand behind the last pair.
 use mathlib.Core.Path.{_≡_}
 use mathlib.Core.Bool.{Bool, true, false, _&&_, not}
 use mathlib.Core.List.{List, map}
@@ -24,8 +24,8 @@ abbrev pub count-after : ℕ → Bool → Bool → ℕ
 count-after pairs listed true = pairs + bit (not listed)
 count-after pairs listed false = pairs - bit listed
 
--- the pair arrays and the pair count after a taken message
-pub record Changed (h : Head) (operators rides : List ℕ) (u v : ℕ) (to : Bool) (count : ℕ) (operators′ rides′ : List ℕ) : Type 0 where
-  pub pairs : count ≡ length (pair-numbers (graph-with h operators rides u v to))
-  pub operator-words : operators′ ≡ over (padded (pair-places h) (map (λ k. k / h .rides) (pair-numbers (graph-with h operators rides u v to)))) operators
-  pub ride-words : rides′ ≡ over (padded (pair-places h) (map (λ k. k % h .rides) (pair-numbers (graph-with h operators rides u v to)))) rides
+-- the pair arrays list the clearances of g, zeros stand behind them, and their count is this; past their end the old words
+pub record Arrays (h : Head) (g : Graph) (operators rides : List ℕ) (count : ℕ) (operators′ rides′ : List ℕ) : Type 0 where
+  pub pairs : count ≡ length (pair-numbers g)
+  pub operator-words : operators′ ≡ over (padded (pair-places h) (map (λ k. k / h .rides) (pair-numbers g))) operators
+  pub ride-words : rides′ ≡ over (padded (pair-places h) (map (λ k. k % h .rides) (pair-numbers g))) rides

@@ -1,11 +1,11 @@
-// The pair arrays after a taken message: its pair is added or removed where needed.
+// The pair arrays after a taken message: its pair is added or removed where needed, and zeros stand behind the last pair.
 ghost use mathlib.Core.Path.{_≡_};
 ghost use mathlib.Core.Bool.{true};
 ghost use Prim.Native.Nat.{_+_, _<_, _≤_};
 ghost use lib.ListN.{length};
-ghost use Rattle.model.specs.Layout.{pair-places};
+ghost use Rattle.model.specs.Layout.{pair-places, graph};
 ghost use Rattle.pairs.specs.Accepted.{AcceptedPairs};
-ghost use Rattle.changes.specs.Change.{count-after, Changed};
+ghost use Rattle.changes.specs.Change.{graph-with, count-after, Arrays};
 use model::Head;
 
 // The number of pairs after a grant or a withdrawal.
@@ -42,7 +42,7 @@ pub fn change(
         (pair-places head ≤ length (now rides))
         ⌝ }
     ensures { λ r. ⌜
-        Changed head (now (operators .entry)) (now (rides .entry)) operator ride grant r
+        Arrays head (graph-with head (now (operators .entry)) (now (rides .entry)) operator ride grant) (now (operators .entry)) (now (rides .entry)) r
         (now (operators .exit)) (now (rides .exit))
         ⌝ }
 {
@@ -56,4 +56,22 @@ pub fn change(
     words::fill(operators, count, places, 0);
     words::fill(rides, count, places, 0);
     count as u16
+}
+
+// Zeroes the tails of the pair arrays, whose pairs stay.
+pub fn clear_tails(head: Head, operators: &mut [u16], rides: &mut [u16])
+    requires { ⌜
+        AcceptedPairs head (now operators) (now rides) ×
+        (pair-places head ≤ length (now operators)) ×
+        (pair-places head ≤ length (now rides))
+        ⌝ }
+    ensures { λ _. ⌜
+        Arrays head (graph head (now (operators .entry)) (now (rides .entry))) (now (operators .entry)) (now (rides .entry)) (head .pairs)
+        (now (operators .exit)) (now (rides .exit))
+        ⌝ }
+{
+    let places = head.operators as usize * head.rides as usize;
+    let pairs = head.pairs as usize;
+    words::fill(operators, pairs, places, 0);
+    words::fill(rides, pairs, places, 0);
 }

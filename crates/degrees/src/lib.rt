@@ -5,7 +5,7 @@ ghost use Prim.Native.Nat.{ℕ, _+_, _≤_, _<_};
 ghost use lib.ListN.{length, getD};
 ghost use Rattle.model.specs.Count.{count};
 ghost use Rattle.model.specs.Graph.{Graph, degree, marked};
-ghost use Rattle.model.specs.Layout.{graph};
+ghost use Rattle.model.specs.Layout.{counting-graph, mark-places};
 ghost use Rattle.pairs.specs.Accepted.{AcceptedPairs};
 ghost use Rattle.tables.specs.Table.{Table, Tables, ZeroTables, joined, table-graph};
 ghost use Rattle.degrees.specs.Degrees.{Ready, MarkedDegrees, Beside, common-ones};
@@ -48,24 +48,27 @@ fn everybody(by_operator: &[u8], by_ride: &[u8], n: usize, m: usize) -> Degrees
     Degrees { operators, rides }
 }
 
-// Fills tables of zeros with the clearances of a pair table; the degrees inside everybody.
+// Fills tables of zeros with the pairs of a pair table that count; the degrees inside everybody.
 pub fn tabulate(
     head: Head,
     operators: &[u16],
     rides: &[u16],
+    presence: &[u16],
     by_operator: &mut [u8],
     by_ride: &mut [u8],
 ) -> Degrees
-    requires { ⌜ AcceptedPairs head (now operators) (now rides) × ZeroTables (now «by_operator») (now «by_ride») ⌝ }
+    requires { ⌜
+        AcceptedPairs head (now operators) (now rides) × (mark-places head ≤ length (now presence)) × ZeroTables (now «by_operator») (now «by_ride»)
+        ⌝ }
     ensures { λ r. ⌜
-        Tables (graph head (now (operators .entry)) (now (rides .entry)))
+        Tables (counting-graph head (now (operators .entry)) (now (rides .entry)) (now (presence .entry)))
         (now («by_operator» .exit)) (now («by_ride» .exit)) ×
         Tabulated (head .operators) (head .rides) (now («by_operator» .exit)) (now («by_ride» .exit)) (r .operators) (r .rides)
         ⌝ }
 {
     let n = head.operators as usize;
     let m = head.rides as usize;
-    tables::fill(head, operators, rides, by_operator, by_ride);
+    tables::fill(head, operators, rides, presence, by_operator, by_ride);
     everybody(by_operator, by_ride, n, m)
 }
 

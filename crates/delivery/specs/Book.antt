@@ -27,7 +27,7 @@ unfoldable pub too-short : Head → Call → Bool
 too-short h (Call.message l m) = parts-short h l
 too-short h (Call.messages l ms answers) = parts-short h l || ltb (length answers) (length ms)
 
--- a message is valid if none of 7, 8, 9 and 14 applies
+-- a message is valid if none of 7, 8, 9, 14 and 15 applies
 unfoldable pub valid : Head → Message → Bool
 valid h m = eqb (first-number (valid-cases h m)) 0
 
@@ -67,10 +67,11 @@ latest [] t = none
 latest (e ∷ es) t = elim (same-slot (slot e) t) [ true ↦ later-one e (latest es t) | false ↦ latest es t ]
 
 -- what the book says of a slot with this latest entry; with no entry it was never heard of
-abbrev pub said : Option Message → Entry
-said none = unheard
-said (some e) = entry e
+abbrev pub said : Slot → Option Message → Entry
+said t none = unheard t
+said t (some e) = entry e
 
--- the board worked out from a book: a pair with an entry has its latest entry's stamp and revision, and is listed exactly if that is a grant
+-- the board worked out from a book: each pair, operator and ride with an entry has its latest entry's stamp and revision; the pair is listed, the
+-- operator on and the ride in exactly if that is of kind 1, 3 or 5; the index is that of the listed pairs that count
 unfoldable pub written : Head → List Message → Board
-written h es = board-of h (λ t. said (latest es t))
+written h es = board-of h (λ t. said t (latest es t))

@@ -1,17 +1,18 @@
--- Demand 2, all of it: index, queries and peel give the (α, β)-core of Definition 2.1, on any index of clearances, after a build, and after any list of calls.
+-- Demand 2, all of it: index, queries and peel give the (α, β)-core of Definition 2.1, of the pairs that count and those present, on any index of
+-- clearances, after a build, and after any list of calls.
 use mathlib.Core.Path.{_≡_}
 use mathlib.Core.List.{List, _++_}
 use Prim.Native.Nat.{ℕ, _≤_}
 use lib.ListN.{length}
 use Rattle.model.specs.declared.Head.{Head}
-use Rattle.model.specs.Graph.{index-of}
-use Rattle.model.specs.Layout.{Operators, Rides, Index, Board, mark-places, board-graph}
+use Rattle.model.specs.Graph.{present, index-of}
+use Rattle.model.specs.Layout.{Operators, Rides, Index, Presence, Board, mark-places, board-graph}
 use Rattle.model.specs.Refusal.{build-refusal}
 use Rattle.model.specs.Calls.{board-query, board-peel}
-use Rattle.model.specs.Demand.{AllOnes, PeelLaws, CoverLaws, LevelLaws, ZeroIsNoLimit, QueryIsCore, IsCore, IndexThenQuery, BuildThenQuery, PreviewThenQuery, IsPeeledCore, PeelIsCore}
+use Rattle.model.specs.Demand.{AllOnes, PeelLaws, CoverLaws, LevelLaws, ZeroIsNoLimit, PresenceLaws, QueryIsCore, IsCore, IndexThenQuery, BuildThenQuery, PreviewThenQuery, PeelIsLargest, IsPeeledCore, PeelIsCore}
 use Rattle.delivery.specs.Calls.{Call, run, built-board}
 
--- the index that a list of calls left is that of the pairs that the board then lists
+-- the index that a list of calls left is that of the listed pairs that then count
 abbrev pub CallsThenIndex : Type 0
 CallsThenIndex =
     (b : Board) (start : ℕ) (calls : List Call) →
@@ -19,24 +20,27 @@ CallsThenIndex =
     let left = run (built-board b start) calls in
     left .part Index ≡ index-of (board-graph left)
 
--- each query of that board, its index lent with any words behind it, gives the core of the pairs that it lists, with its sizes
+-- each query of that board, its index and its presence words lent with any words behind them, gives the core of the pairs that count, of those
+-- present, with its sizes
 abbrev pub CallsThenQuery : Type 0
 CallsThenQuery =
-    (b : Board) (start : ℕ) (calls : List Call) (more : List ℕ) (α β : ℕ) (marks : List ℕ) →
+    (b : Board) (start : ℕ) (calls : List Call) (more more′ : List ℕ) (α β : ℕ) (marks : List ℕ) →
     build-refusal b start ≡ 0 →
     mark-places (b .head) ≤ length marks →
     let left = run (built-board b start) calls in
-    IsCore (board-graph left) α β (board-query (left .head) (left .part Index ++ more) α β marks)
+    IsCore (board-graph left) (present (left .part Presence)) α β
+    (board-query (left .head) (left .part Index ++ more) (left .part Presence ++ more′) α β marks)
 
--- each peel of it from all ones, its pair arrays lent with any words behind them, gives that core too once it is settled
+-- each peel of it from all ones, its pair arrays and presence words lent with any words behind them, gives that core too once it is settled
 abbrev pub CallsThenPeel : Type 0
 CallsThenPeel =
-    (b : Board) (start : ℕ) (calls : List Call) (more more′ : List ℕ) (α β allowed : ℕ) (marks : List ℕ) →
+    (b : Board) (start : ℕ) (calls : List Call) (more more′ more″ : List ℕ) (α β allowed : ℕ) (marks : List ℕ) →
     build-refusal b start ≡ 0 →
     mark-places (b .head) ≤ length marks →
     AllOnes (board-graph b) marks →
     let left = run (built-board b start) calls in
-    IsPeeledCore (board-graph left) α β allowed (board-peel (left .head) (left .part Operators ++ more) (left .part Rides ++ more′) marks α β allowed)
+    IsPeeledCore (board-graph left) (present (left .part Presence)) α β allowed
+    (board-peel (left .head) (left .part Operators ++ more) (left .part Rides ++ more′) (left .part Presence ++ more″) marks α β allowed)
 
 -- Demand 2, all of it
 pub record Demand2 : Type 0 where
@@ -44,12 +48,14 @@ pub record Demand2 : Type 0 where
   pub cover-laws : CoverLaws
   pub level-laws : LevelLaws
   pub peel-laws : PeelLaws
-  pub zero-is-no-limit : (h : Head) (index : List ℕ) → ZeroIsNoLimit h index
+  pub zero-is-no-limit : (h : Head) (index presence : List ℕ) → ZeroIsNoLimit h index presence
+  pub presence-laws : PresenceLaws
   pub query-is-core : QueryIsCore
   -- of the calls
   pub index-then-query : IndexThenQuery
   pub build-then-query : BuildThenQuery
   pub preview-then-query : PreviewThenQuery
+  pub peel-is-largest : PeelIsLargest
   pub peel-is-core : PeelIsCore
   -- from end to end
   pub calls-then-index : CallsThenIndex

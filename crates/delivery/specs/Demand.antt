@@ -9,6 +9,7 @@ use lib.Dec.{T}
 use lib.ListN.{length, take}
 use Rattle.model.specs.declared.Head.{Head}
 use Rattle.model.specs.declared.Message.{Message}
+use Rattle.model.specs.Graph.{row}
 use Rattle.model.specs.Layout.{Operators, Rides, Board, over, exact, board-graph}
 use Rattle.model.specs.Contents.{Slot, later, slot, entry}
 use Rattle.model.specs.Refusal.{build-refusal, message-refusal, list-refusal}
@@ -69,14 +70,21 @@ AnyOrder =
     ((m : Message) → T (valid (b .head) m) → List·Memᴰ m (delivered (built-board b start) calls) ↔ List·Memᴰ m (delivered (built-board b′ start) calls′)) →
     run (built-board b start) calls ≡ run (built-board b′ start) calls′
 
--- Demand 3, its last sentence: on any board where a message is taken, how levels by the definition move
+-- Demand 3, its last sentence: on any board where a message is taken, how levels by the definition move, of the pairs that count
 pub record OneMessage : Type 0 where
-  -- up for a grant, which adds its pair where needed
+  -- up for a grant, which adds its pair where needed, and for an operator coming on
   pub grant : (b : Board) (m : Message) → message-refusal b m ≡ 0 → m .kind ≡ 1 →
       OneMove (board-graph b) (board-graph (board-message b m .board)) (m .operator)
-  -- down for a withdrawal, which removes it where needed
+  pub operator-on : (b : Board) (m : Message) → message-refusal b m ≡ 0 → m .kind ≡ 3 →
+      OneMove (board-graph b) (board-graph (board-message b m .board)) (m .operator)
+  -- down for a withdrawal, which removes it where needed, and for an operator going off
   pub withdrawal : (b : Board) (m : Message) → message-refusal b m ≡ 0 → m .kind ≡ 2 →
       OneMove (board-graph (board-message b m .board)) (board-graph b) (m .operator)
+  pub operator-off : (b : Board) (m : Message) → message-refusal b m ≡ 0 → m .kind ≡ 4 →
+      OneMove (board-graph (board-message b m .board)) (board-graph b) (m .operator)
+  -- for a ride levels may move further: on some board its going takes two operators from level 2 to level 0 in row 1
+  pub ride-out : (b : Board) × (m : Message) × (message-refusal b m ≡ 0) × (m .kind ≡ 6) × (b .head .operators ≡ 2) ×
+      (take 2 (row (board-graph b) 1) ≡ 2 ∷ 2 ∷ []) × (take 2 (row (board-graph (board-message b m .board)) 1) ≡ 0 ∷ 0 ∷ [])
 
 -- the board after messages sent one after another by message calls
 unfoldable pub board-by-calls : Board → List Message → Board

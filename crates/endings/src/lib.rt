@@ -4,7 +4,7 @@ ghost use Prim.Native.Nat.{_<_, _≤_};
 ghost use lib.Dec.{eqb};
 ghost use lib.ListN.{length, getD};
 ghost use Rattle.model.specs.Count.{some};
-ghost use Rattle.model.specs.Layout.{index-places, graph};
+ghost use Rattle.model.specs.Layout.{mark-places, index-places, counting-graph};
 ghost use Rattle.pairs.specs.Accepted.{AcceptedPairs};
 ghost use Rattle.endings.specs.Ending.{filled-index, index-turned};
 use model::Head;
@@ -25,16 +25,25 @@ fn any_taken(numbers: &[u16]) -> bool
 }
 
 // Fills the index, if one of these numbers is 0.
-fn fill_taken(head: Head, operators: &[u16], rides: &[u16], index: &mut [u16], numbers: &[u16])
-    requires { ⌜ AcceptedPairs head (now operators) (now rides) × (index-places head ≤ length (now index)) ⌝ }
+fn fill_taken(
+    head: Head,
+    operators: &[u16],
+    rides: &[u16],
+    presence: &[u16],
+    index: &mut [u16],
+    numbers: &[u16],
+)
+    requires { ⌜
+        AcceptedPairs head (now operators) (now rides) × (mark-places head ≤ length (now presence)) × (index-places head ≤ length (now index))
+        ⌝ }
     ensures { λ _. ⌜
         now (index .exit)
-        ≡ filled-index (length (now (numbers .entry))) (graph head (now (operators .entry)) (now (rides .entry))) (now (index .entry))
+        ≡ filled-index (length (now (numbers .entry))) (counting-graph head (now (operators .entry)) (now (rides .entry)) (now (presence .entry))) (now (index .entry))
         (now (numbers .entry))
         ⌝ }
 {
     if any_taken(numbers) {
-        levels::fill_index(head, operators, rides, index);
+        levels::fill_index(head, operators, rides, presence, index);
     }
 }
 
@@ -45,21 +54,23 @@ pub fn finish(
     n: usize,
     operators: &[u16],
     rides: &[u16],
+    presence: &[u16],
     index: &mut [u16],
     numbers: &[u16],
 )
     requires { ⌜
         AcceptedPairs head (now operators) (now rides) ×
+        (mark-places head ≤ length (now presence)) ×
         (index-places head ≤ length (now index)) ×
         (at < n) ×
         (n ≤ length (now numbers))
         ⌝ }
     ensures { λ _. ⌜
         now (index .exit)
-        ≡ index-turned at n (graph head (now (operators .entry)) (now (rides .entry))) (now (index .entry)) (now (numbers .entry))
+        ≡ index-turned at n (counting-graph head (now (operators .entry)) (now (rides .entry)) (now (presence .entry))) (now (index .entry)) (now (numbers .entry))
         ⌝ }
 {
     if at + 1 == n {
-        fill_taken(head, operators, rides, index, &numbers[0..n]);
+        fill_taken(head, operators, rides, presence, index, &numbers[0..n]);
     }
 }

@@ -3,7 +3,7 @@ ghost use mathlib.Core.Path.{_≡_};
 ghost use Prim.Native.Nat.{ℕ, _+_, _*_, _<_, _≤_};
 ghost use lib.ListN.{length, getD};
 ghost use Rattle.model.specs.Graph.{row as levels-row, index-of};
-ghost use Rattle.model.specs.Layout.{over, graph, index-places, differing};
+ghost use Rattle.model.specs.Layout.{over, counting-graph, mark-places, index-places, differing};
 ghost use Rattle.pairs.specs.Accepted.{AcceptedPairs};
 ghost use Rattle.tables.specs.Table.{ZeroTables, table-graph};
 ghost use Rattle.degrees.specs.Everybody.{Tabulated};
@@ -115,6 +115,7 @@ fn fill_over(
     head: Head,
     operators: &[u16],
     rides: &[u16],
+    presence: &[u16],
     by_operator: &mut [u8],
     by_ride: &mut [u8],
     row: &mut [u16],
@@ -122,19 +123,22 @@ fn fill_over(
 ) -> u16
     requires { ⌜
         AcceptedPairs head (now operators) (now rides) ×
+        (mark-places head ≤ length (now presence)) ×
         ZeroTables (now «by_operator») (now «by_ride») ×
         (length (now row) ≡ 260) ×
         (index-places head ≤ length (now index))
         ⌝ }
     ensures { λ r. ⌜
-        (now (index .exit) ≡ over (index-of (graph head (now (operators .entry)) (now (rides .entry)))) (now (index .entry))) ×
-        (r ≡ differing (index-places head) (now (index .entry)) (index-of (graph head (now (operators .entry)) (now (rides .entry)))))
+        (now (index .exit)
+        ≡ over (index-of (counting-graph head (now (operators .entry)) (now (rides .entry)) (now (presence .entry)))) (now (index .entry))) ×
+        (r ≡ differing (index-places head) (now (index .entry))
+        (index-of (counting-graph head (now (operators .entry)) (now (rides .entry)) (now (presence .entry)))))
         ⌝ }
 {
     let n = head.operators as usize;
     let m = head.rides as usize;
     let w = n + m;
-    let degrees = degrees::tabulate(head, operators, rides, by_operator, by_ride);
+    let degrees = degrees::tabulate(head, operators, rides, presence, by_operator, by_ride);
     let high = largest_of(degrees, n);
     fill_rows(
         by_operator,
@@ -148,12 +152,24 @@ fn fill_over(
     )
 }
 
-// Fills the index of a pair table; the number of words that differ before and after.
-pub fn fill_index(head: Head, operators: &[u16], rides: &[u16], index: &mut [u16]) -> u16
-    requires { ⌜ AcceptedPairs head (now operators) (now rides) × (index-places head ≤ length (now index)) ⌝ }
+// Fills the index of the pairs of a pair table that count; the number of words that differ before and after.
+pub fn fill_index(
+    head: Head,
+    operators: &[u16],
+    rides: &[u16],
+    presence: &[u16],
+    index: &mut [u16],
+) -> u16
+    requires { ⌜
+        AcceptedPairs head (now operators) (now rides) ×
+        (mark-places head ≤ length (now presence)) ×
+        (index-places head ≤ length (now index))
+        ⌝ }
     ensures { λ r. ⌜
-        (now (index .exit) ≡ over (index-of (graph head (now (operators .entry)) (now (rides .entry)))) (now (index .entry))) ×
-        (r ≡ differing (index-places head) (now (index .entry)) (index-of (graph head (now (operators .entry)) (now (rides .entry)))))
+        (now (index .exit)
+        ≡ over (index-of (counting-graph head (now (operators .entry)) (now (rides .entry)) (now (presence .entry)))) (now (index .entry))) ×
+        (r ≡ differing (index-places head) (now (index .entry))
+        (index-of (counting-graph head (now (operators .entry)) (now (rides .entry)) (now (presence .entry)))))
         ⌝ }
 {
     let mut by_operator = [0u8; 12000];
@@ -163,6 +179,7 @@ pub fn fill_index(head: Head, operators: &[u16], rides: &[u16], index: &mut [u16
         head,
         operators,
         rides,
+        presence,
         &mut by_operator,
         &mut by_ride,
         &mut row,

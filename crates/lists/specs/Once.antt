@@ -6,19 +6,11 @@ use Prim.Native.Nat.{ℕ, zero, suc, _+_}
 use lib.Dec.{eqb}
 use lib.ListN.{set}
 use Rattle.model.specs.declared.Message.{Message}
-use Rattle.model.specs.Layout.{Operators, Rides, Stamps, Revisions, Index, Board, lent, board-graph}
-use Rattle.model.specs.Refusal.{message-refusal}
-use Rattle.model.specs.Message.{board-after, board-message, ListOutcome}
+use Rattle.model.specs.Layout.{Index, Board, board-graph}
+use Rattle.model.specs.Message.{board-message, ListOutcome}
+use Rattle.entries.specs.Enter.{with-index, entered-valid}
 use Rattle.endings.specs.Ending.{filled-index}
 use Rattle.lists.specs.declared.Turns.{Turns}
-
--- the board with other words in its index
-abbrev pub with-index : Board → List ℕ → Board
-with-index b index = lent (b .head) (b .part Operators) (b .part Rides) (b .part Stamps) (b .part Revisions) index
-
--- the board once a message is entered, its index as it was
-unfoldable pub entered : Board → Message → Board
-entered b m = elim (message-refusal b m) [ zero ↦ with-index (board-after b m) (b .part Index) | suc k ↦ b ]
 
 -- a board with its index filled, if one of the first n answers is 0
 abbrev pub finished : ℕ → Board → List ℕ → Board
@@ -30,7 +22,7 @@ turned n b m at answers =
     let numbers : List ℕ = set answers at (board-message b m .answer .code) in
     record {
       code = 0;
-      board = elim (eqb (at + 1) n) [ true ↦ finished n (entered b m) numbers | false ↦ entered b m ];
+      board = elim (eqb (at + 1) n) [ true ↦ finished n (entered-valid b m) numbers | false ↦ entered-valid b m ];
       answers = numbers;
     }
 

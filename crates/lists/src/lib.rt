@@ -24,12 +24,16 @@ pub fn list_turns(
     stamps: &[u32],
     revisions: &[u16],
     index: &[u16],
+    presence_stamps: &[u32],
+    presence_revisions: &[u16],
+    presence: &[u16],
     answers: &[u16],
 ) -> Turns
     ensures { λ r. ⌜
         r
         ≡ turns-of
-        (list-refusal (lent head (now (operators .entry)) (now (rides .entry)) (now (stamps .entry)) (now (revisions .entry)) (now (index .entry)))
+        (list-refusal (lent head (now (operators .entry)) (now (rides .entry)) (now (stamps .entry)) (now (revisions .entry)) (now (index .entry))
+        (now («presence_stamps» .entry)) (now («presence_revisions» .entry)) (now (presence .entry)))
         messages (now (answers .entry))) messages
         ⌝ }
 {
@@ -41,6 +45,9 @@ pub fn list_turns(
         stamps,
         revisions,
         index,
+        presence_stamps,
+        presence_revisions,
+        presence,
         answers,
     );
     if code == 0 {
@@ -63,23 +70,39 @@ pub fn turn(
     stamps: &mut [u32],
     revisions: &mut [u16],
     index: &mut [u16],
+    presence_stamps: &mut [u32],
+    presence_revisions: &mut [u16],
+    presence: &mut [u16],
     answers: &mut [u16],
 ) -> u16
-    requires { ⌜ (list-refusal (lent head (now operators) (now rides) (now stamps) (now revisions) (now index)) n (now answers) ≡ 0) × (at < n) ⌝ }
+    requires { ⌜ (list-refusal (lent head (now operators) (now rides) (now stamps) (now revisions) (now index)
+        (now «presence_stamps») (now «presence_revisions») (now presence)) n (now answers) ≡ 0) × (at < n) ⌝ }
     ensures { λ r. ⌜
-        listed-out 0 (lent (with-pairs head r) (now (operators .exit)) (now (rides .exit)) (now (stamps .exit)) (now (revisions .exit)) (now (index .exit)))
+        listed-out 0 (lent (with-pairs head r) (now (operators .exit)) (now (rides .exit)) (now (stamps .exit)) (now (revisions .exit)) (now (index .exit))
+        (now («presence_stamps» .exit)) (now («presence_revisions» .exit)) (now (presence .exit)))
         (now (answers .exit))
-        ≡ turned n (lent head (now (operators .entry)) (now (rides .entry)) (now (stamps .entry)) (now (revisions .entry)) (now (index .entry))) message at
+        ≡ turned n (lent head (now (operators .entry)) (now (rides .entry)) (now (stamps .entry)) (now (revisions .entry)) (now (index .entry))
+        (now («presence_stamps» .entry)) (now («presence_revisions» .entry)) (now (presence .entry))) message at
         (now (answers .entry))
         ⌝ }
 {
-    let entered = entries::enter_valid(head, message, operators, rides, stamps, revisions);
+    let entered = entries::enter_valid(
+        head,
+        message,
+        operators,
+        rides,
+        stamps,
+        revisions,
+        presence_stamps,
+        presence_revisions,
+        presence,
+    );
     answers[at] = entered.code;
     let next = Head {
         operators: head.operators,
         rides: head.rides,
         pairs: entered.pairs,
     };
-    endings::finish(next, at, n, operators, rides, index, answers);
+    endings::finish(next, at, n, operators, rides, presence, index, answers);
     entered.pairs
 }

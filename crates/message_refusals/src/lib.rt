@@ -5,9 +5,10 @@ ghost use mathlib.Core.List.{List, _++_};
 ghost use Prim.Native.Nat.{ℕ, _≤_};
 ghost use lib.ListN.{length};
 ghost use Rattle.model.specs.Layout.{parts, lent, pair-places};
-ghost use Rattle.model.specs.Refusal.{refused-3, board-short, first-number, board-cases, valid-cases, message-cases};
+ghost use Rattle.model.specs.Contents.{slot};
+ghost use Rattle.model.specs.Refusal.{refused-3, refused-8, unused, refused-10, board-short, first-number, board-cases, valid-cases, message-cases};
 ghost use Rattle.model.specs.Refusal.{message-refusal, preview-refusal, list-refusal};
-ghost use Rattle.pairs.specs.Accepted.{AcceptedPairs};
+ghost use Rattle.message_refusals.specs.Ready.{Ready};
 use model::Head;
 use model::Message;
 use refusals::short_board;
@@ -20,8 +21,8 @@ fn board_number(head: Head, short: bool, operators: &[u16], rides: &[u16], stamp
         (pair-places head ≤ length (now stamps)))
         ⌝ }
     ensures { λ r. ⌜
-        ((revisions index : List ℕ) → r ≡ first-number
-        (board-cases (lent head (now (operators .entry)) (now (rides .entry)) (now (stamps .entry)) revisions index) short))
+        ((revisions index stamps′ revisions′ presence : List ℕ) → r ≡ first-number
+        (board-cases (lent head (now (operators .entry)) (now (rides .entry)) (now (stamps .entry)) revisions index stamps′ revisions′ presence) short))
         ⌝ }
 {
     let number = table_number(head, short, operators, rides);
@@ -34,20 +35,43 @@ fn board_number(head: Head, short: bool, operators: &[u16], rides: &[u16], stamp
     0
 }
 
-// 7 to 9 and 14 of a message: 0 if it is valid.
+// Whether what a message speaks of is out of range: its pair, its operator or its ride.
+fn outside(head: Head, message: Message) -> bool
+    ensures { λ r. ⌜ r ≡ refused-8 head message ⌝ }
+{
+    if message.kind <= 2 {
+        return head.operators <= message.operator || head.rides <= message.ride;
+    }
+    if message.kind <= 4 {
+        return head.operators <= message.operator;
+    }
+    head.rides <= message.ride
+}
+
+// The field that a message doesn't use; 0 where it uses both.
+fn unused(message: Message) -> u16
+    ensures { λ r. ⌜ r ≡ unused (slot message) message ⌝ }
+{
+    if message.kind <= 2 {
+        return 0;
+    }
+    if message.kind <= 4 {
+        return message.ride;
+    }
+    message.operator
+}
+
+// 7 to 9, 14 and 15 of a message: 0 if it is valid.
 fn valid_number(head: Head, message: Message) -> u16
     ensures { λ r. ⌜ r ≡ first-number (valid-cases head message) ⌝ }
 {
     if message.kind == 0 {
         return 7;
     }
-    if 2 < message.kind {
+    if 6 < message.kind {
         return 7;
     }
-    if head.operators <= message.operator {
-        return 8;
-    }
-    if head.rides <= message.ride {
+    if outside(head, message) {
         return 8;
     }
     if message.stamp == 0 {
@@ -56,10 +80,41 @@ fn valid_number(head: Head, message: Message) -> u16
     if 255 < message.revision {
         return 14;
     }
+    if unused(message) != 0 {
+        return 15;
+    }
     0
 }
 
-// 7 to 9, 14 and 10 of a message, on a board to which 1 to 6 do not apply.
+// Whether a valid message is not later than the last of its pair, operator or ride.
+fn not_later(
+    head: Head,
+    message: Message,
+    operators: &[u16],
+    rides: &[u16],
+    stamps: &[u32],
+    revisions: &[u16],
+    presence_stamps: &[u32],
+    presence_revisions: &[u16],
+    presence: &[u16],
+) -> bool
+    requires { ⌜
+        Ready head (now operators) (now rides) (now stamps) (now revisions) (now «presence_stamps») (now «presence_revisions») (now presence) ×
+        (first-number (valid-cases head message) ≡ 0)
+        ⌝ }
+    ensures { λ r. ⌜
+        ((index : List ℕ) → r ≡ refused-10
+        (lent head (now (operators .entry)) (now (rides .entry)) (now (stamps .entry)) (now (revisions .entry)) index
+        (now («presence_stamps» .entry)) (now («presence_revisions» .entry)) (now (presence .entry))) message)
+        ⌝ }
+{
+    if message.kind <= 2 {
+        return stamps::not_later(head, message, operators, rides, stamps, revisions);
+    }
+    presence::not_later(head, message, presence_stamps, presence_revisions, presence)
+}
+
+// 7 to 9, 14, 15 and 10 of a message, on a board to which 1 to 6 do not apply.
 pub fn entry_number(
     head: Head,
     message: Message,
@@ -67,26 +122,40 @@ pub fn entry_number(
     rides: &[u16],
     stamps: &[u32],
     revisions: &[u16],
+    presence_stamps: &[u32],
+    presence_revisions: &[u16],
+    presence: &[u16],
 ) -> u16
     requires { ⌜
-        AcceptedPairs head (now operators) (now rides) × (pair-places head ≤ length (now stamps)) × (pair-places head ≤ length (now revisions))
+        Ready head (now operators) (now rides) (now stamps) (now revisions) (now «presence_stamps») (now «presence_revisions») (now presence)
         ⌝ }
     ensures { λ r. ⌜
         ((index : List ℕ) → r ≡ first-number
-        (message-cases (lent head (now (operators .entry)) (now (rides .entry)) (now (stamps .entry)) (now (revisions .entry)) index) message))
+        (message-cases (lent head (now (operators .entry)) (now (rides .entry)) (now (stamps .entry)) (now (revisions .entry)) index
+        (now («presence_stamps» .entry)) (now («presence_revisions» .entry)) (now (presence .entry))) message))
         ⌝ }
 {
     let number = valid_number(head, message);
     if number != 0 {
         return number;
     }
-    if stamps::not_later(head, message, operators, rides, stamps, revisions) {
+    if not_later(
+        head,
+        message,
+        operators,
+        rides,
+        stamps,
+        revisions,
+        presence_stamps,
+        presence_revisions,
+        presence,
+    ) {
         return 10;
     }
     0
 }
 
-// 1 to 9, 14 and 10 of a message on a board whose own number, of 1 to 6, is known.
+// 1 to 9, 14, 15 and 10 of a message on a board whose own number, of 1 to 6, is known.
 fn number_on(
     number: u16,
     head: Head,
@@ -95,27 +164,43 @@ fn number_on(
     rides: &[u16],
     stamps: &[u32],
     revisions: &[u16],
+    presence_stamps: &[u32],
+    presence_revisions: &[u16],
+    presence: &[u16],
 ) -> u16
     requires { ⌜
-        (number ≡ 0 → AcceptedPairs head (now operators) (now rides) × (pair-places head ≤ length (now stamps)) ×
-        (pair-places head ≤ length (now revisions)))
+        (number ≡ 0 →
+        Ready head (now operators) (now rides) (now stamps) (now revisions) (now «presence_stamps») (now «presence_revisions») (now presence))
         ⌝ }
     ensures { λ r. ⌜
         ((index : List ℕ) (short : Bool) →
         number ≡ first-number
-        (board-cases (lent head (now (operators .entry)) (now (rides .entry)) (now (stamps .entry)) (now (revisions .entry)) index) short) →
+        (board-cases (lent head (now (operators .entry)) (now (rides .entry)) (now (stamps .entry)) (now (revisions .entry)) index
+        (now («presence_stamps» .entry)) (now («presence_revisions» .entry)) (now (presence .entry))) short) →
         r ≡ first-number
-        (board-cases (lent head (now (operators .entry)) (now (rides .entry)) (now (stamps .entry)) (now (revisions .entry)) index) short ++
-        message-cases (lent head (now (operators .entry)) (now (rides .entry)) (now (stamps .entry)) (now (revisions .entry)) index) message))
+        (board-cases (lent head (now (operators .entry)) (now (rides .entry)) (now (stamps .entry)) (now (revisions .entry)) index
+        (now («presence_stamps» .entry)) (now («presence_revisions» .entry)) (now (presence .entry))) short ++
+        message-cases (lent head (now (operators .entry)) (now (rides .entry)) (now (stamps .entry)) (now (revisions .entry)) index
+        (now («presence_stamps» .entry)) (now («presence_revisions» .entry)) (now (presence .entry))) message))
         ⌝ }
 {
     if number != 0 {
         return number;
     }
-    entry_number(head, message, operators, rides, stamps, revisions)
+    entry_number(
+        head,
+        message,
+        operators,
+        rides,
+        stamps,
+        revisions,
+        presence_stamps,
+        presence_revisions,
+        presence,
+    )
 }
 
-// 1 to 9, 14 and 10 of a message.
+// 1 to 9, 14, 15 and 10 of a message.
 pub fn message_number(
     head: Head,
     message: Message,
@@ -124,15 +209,40 @@ pub fn message_number(
     stamps: &[u32],
     revisions: &[u16],
     index: &[u16],
+    presence_stamps: &[u32],
+    presence_revisions: &[u16],
+    presence: &[u16],
 ) -> u16
     ensures { λ r. ⌜
         r
-        ≡ message-refusal (lent head (now (operators .entry)) (now (rides .entry)) (now (stamps .entry)) (now (revisions .entry)) (now (index .entry))) message
+        ≡ message-refusal (lent head (now (operators .entry)) (now (rides .entry)) (now (stamps .entry)) (now (revisions .entry)) (now (index .entry))
+        (now («presence_stamps» .entry)) (now («presence_revisions» .entry)) (now (presence .entry))) message
         ⌝ }
 {
-    let short = short_board(head, operators, rides, stamps, revisions, index);
+    let short = short_board(
+        head,
+        operators,
+        rides,
+        stamps,
+        revisions,
+        index,
+        presence_stamps,
+        presence_revisions,
+        presence,
+    );
     let number = board_number(head, short, operators, rides, stamps);
-    number_on(number, head, message, operators, rides, stamps, revisions)
+    number_on(
+        number,
+        head,
+        message,
+        operators,
+        rides,
+        stamps,
+        revisions,
+        presence_stamps,
+        presence_revisions,
+        presence,
+    )
 }
 
 // Whether a part of a board, or one of the spare memory for it, is too short.
@@ -143,22 +253,40 @@ fn short_preview(
     stamps: &[u32],
     revisions: &[u16],
     index: &[u16],
+    presence_stamps: &[u32],
+    presence_revisions: &[u16],
+    presence: &[u16],
     spare_operators: &[u16],
     spare_rides: &[u16],
     spare_stamps: &[u32],
     spare_revisions: &[u16],
     spare_index: &[u16],
+    spare_presence_stamps: &[u32],
+    spare_presence_revisions: &[u16],
+    spare_presence: &[u16],
 ) -> bool
     ensures { λ r. ⌜
         r
         ≡
-        (board-short (lent head (now (operators .entry)) (now (rides .entry)) (now (stamps .entry)) (now (revisions .entry)) (now (index .entry))) ||
+        (board-short (lent head (now (operators .entry)) (now (rides .entry)) (now (stamps .entry)) (now (revisions .entry)) (now (index .entry))
+        (now («presence_stamps» .entry)) (now («presence_revisions» .entry)) (now (presence .entry))) ||
         board-short
         (lent head (now («spare_operators» .entry)) (now («spare_rides» .entry)) (now («spare_stamps» .entry)) (now («spare_revisions» .entry))
-        (now («spare_index» .entry))))
+        (now («spare_index» .entry))
+        (now («spare_presence_stamps» .entry)) (now («spare_presence_revisions» .entry)) (now («spare_presence» .entry))))
         ⌝ }
 {
-    if short_board(head, operators, rides, stamps, revisions, index) {
+    if short_board(
+        head,
+        operators,
+        rides,
+        stamps,
+        revisions,
+        index,
+        presence_stamps,
+        presence_revisions,
+        presence,
+    ) {
         return true;
     }
     short_board(
@@ -168,10 +296,13 @@ fn short_preview(
         spare_stamps,
         spare_revisions,
         spare_index,
+        spare_presence_stamps,
+        spare_presence_revisions,
+        spare_presence,
     )
 }
 
-// 1 to 9, 14 and 10 of a preview.
+// 1 to 9, 14, 15 and 10 of a preview.
 pub fn preview_number(
     head: Head,
     message: Message,
@@ -180,17 +311,25 @@ pub fn preview_number(
     stamps: &[u32],
     revisions: &[u16],
     index: &[u16],
+    presence_stamps: &[u32],
+    presence_revisions: &[u16],
+    presence: &[u16],
     spare_operators: &[u16],
     spare_rides: &[u16],
     spare_stamps: &[u32],
     spare_revisions: &[u16],
     spare_index: &[u16],
+    spare_presence_stamps: &[u32],
+    spare_presence_revisions: &[u16],
+    spare_presence: &[u16],
 ) -> u16
     ensures { λ r. ⌜
         r
-        ≡ preview-refusal (lent head (now (operators .entry)) (now (rides .entry)) (now (stamps .entry)) (now (revisions .entry)) (now (index .entry))) message
+        ≡ preview-refusal (lent head (now (operators .entry)) (now (rides .entry)) (now (stamps .entry)) (now (revisions .entry)) (now (index .entry))
+        (now («presence_stamps» .entry)) (now («presence_revisions» .entry)) (now (presence .entry))) message
         (parts (now («spare_operators» .entry)) (now («spare_rides» .entry)) (now («spare_stamps» .entry)) (now («spare_revisions» .entry))
-        (now («spare_index» .entry)))
+        (now («spare_index» .entry))
+        (now («spare_presence_stamps» .entry)) (now («spare_presence_revisions» .entry)) (now («spare_presence» .entry)))
         ⌝ }
 {
     let short = short_preview(
@@ -200,14 +339,31 @@ pub fn preview_number(
         stamps,
         revisions,
         index,
+        presence_stamps,
+        presence_revisions,
+        presence,
         spare_operators,
         spare_rides,
         spare_stamps,
         spare_revisions,
         spare_index,
+        spare_presence_stamps,
+        spare_presence_revisions,
+        spare_presence,
     );
     let number = board_number(head, short, operators, rides, stamps);
-    number_on(number, head, message, operators, rides, stamps, revisions)
+    number_on(
+        number,
+        head,
+        message,
+        operators,
+        rides,
+        stamps,
+        revisions,
+        presence_stamps,
+        presence_revisions,
+        presence,
+    )
 }
 
 // Whether a part of a board is too short, or the answer list is shorter than the message list.
@@ -219,16 +375,30 @@ fn short_list(
     stamps: &[u32],
     revisions: &[u16],
     index: &[u16],
+    presence_stamps: &[u32],
+    presence_revisions: &[u16],
+    presence: &[u16],
     answers: &[u16],
 ) -> bool
     ensures { λ r. ⌜
         r
         ≡
-        (board-short (lent head (now (operators .entry)) (now (rides .entry)) (now (stamps .entry)) (now (revisions .entry)) (now (index .entry))) ||
+        (board-short (lent head (now (operators .entry)) (now (rides .entry)) (now (stamps .entry)) (now (revisions .entry)) (now (index .entry))
+        (now («presence_stamps» .entry)) (now («presence_revisions» .entry)) (now (presence .entry))) ||
         refused-3 messages (now (answers .entry)))
         ⌝ }
 {
-    if short_board(head, operators, rides, stamps, revisions, index) {
+    if short_board(
+        head,
+        operators,
+        rides,
+        stamps,
+        revisions,
+        index,
+        presence_stamps,
+        presence_revisions,
+        presence,
+    ) {
         return true;
     }
     answers.len() < messages
@@ -243,11 +413,15 @@ pub fn list_number(
     stamps: &[u32],
     revisions: &[u16],
     index: &[u16],
+    presence_stamps: &[u32],
+    presence_revisions: &[u16],
+    presence: &[u16],
     answers: &[u16],
 ) -> u16
     ensures { λ r. ⌜
         r
-        ≡ list-refusal (lent head (now (operators .entry)) (now (rides .entry)) (now (stamps .entry)) (now (revisions .entry)) (now (index .entry))) messages
+        ≡ list-refusal (lent head (now (operators .entry)) (now (rides .entry)) (now (stamps .entry)) (now (revisions .entry)) (now (index .entry))
+        (now («presence_stamps» .entry)) (now («presence_revisions» .entry)) (now (presence .entry))) messages
         (now (answers .entry))
         ⌝ }
 {
@@ -259,6 +433,9 @@ pub fn list_number(
         stamps,
         revisions,
         index,
+        presence_stamps,
+        presence_revisions,
+        presence,
         answers,
     );
     board_number(head, short, operators, rides, stamps)

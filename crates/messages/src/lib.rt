@@ -16,10 +16,15 @@ pub fn deliver(
     stamps: &mut [u32],
     revisions: &mut [u16],
     index: &mut [u16],
+    presence_stamps: &mut [u32],
+    presence_revisions: &mut [u16],
+    presence: &mut [u16],
 ) -> Delivered
     ensures { λ r. ⌜
-        outcome-of r (lent head (now (operators .exit)) (now (rides .exit)) (now (stamps .exit)) (now (revisions .exit)) (now (index .exit)))
-        ≡ board-message (lent head (now (operators .entry)) (now (rides .entry)) (now (stamps .entry)) (now (revisions .entry)) (now (index .entry))) message
+        outcome-of r (lent head (now (operators .exit)) (now (rides .exit)) (now (stamps .exit)) (now (revisions .exit)) (now (index .exit))
+        (now («presence_stamps» .exit)) (now («presence_revisions» .exit)) (now (presence .exit)))
+        ≡ board-message (lent head (now (operators .entry)) (now (rides .entry)) (now (stamps .entry)) (now (revisions .entry)) (now (index .entry))
+        (now («presence_stamps» .entry)) (now («presence_revisions» .entry)) (now (presence .entry))) message
         ⌝ }
 {
     let number = message_refusals::message_number(
@@ -30,6 +35,9 @@ pub fn deliver(
         stamps,
         revisions,
         index,
+        presence_stamps,
+        presence_revisions,
+        presence,
     );
     if number != 0 {
         return Delivered {
@@ -38,5 +46,16 @@ pub fn deliver(
             pairs: head.pairs,
         };
     }
-    taking::take(head, message, operators, rides, stamps, revisions, index)
+    taking::take(
+        head,
+        message,
+        operators,
+        rides,
+        stamps,
+        revisions,
+        index,
+        presence_stamps,
+        presence_revisions,
+        presence,
+    )
 }

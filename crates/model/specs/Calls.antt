@@ -1,5 +1,5 @@
--- Document 01, What the board does, and document 02, 2.1: build, query and peel, each a function from all that comes in to all that comes out.
-use mathlib.Core.Bool.{true, false}
+-- Document 01, What the board does, and document 02, 2.1 and 2.4: build, query and peel, each a function from all that comes in to all that comes out.
+use mathlib.Core.Bool.{true, false, _&&_}
 use mathlib.Core.List.{List}
 use Prim.Native.Nat.{ℕ, zero, suc, _+_, _-_, _*_}
 use lib.Dec.{leb}
@@ -8,9 +8,9 @@ use Rattle.model.specs.declared.Head.{Head}
 use Rattle.model.specs.declared.Counts.{Counts}
 use Rattle.model.specs.declared.Peeled.{Peeled}
 use Rattle.model.specs.Count.{bit, count, values}
-use Rattle.model.specs.Graph.{Graph, limits, marked, settled, removals, peel, row-for, in-by-level}
-use Rattle.model.specs.Layout.{Board, mark-places, over, onto, graph, board-graph}
-use Rattle.model.specs.Contents.{Pair, Contents, board-of}
+use Rattle.model.specs.Graph.{Graph, limits, marked, present, raised, settled, removals, peel, row-for, in-by-level}
+use Rattle.model.specs.Layout.{Board, mark-places, over, onto, counting-graph, listed-graph}
+use Rattle.model.specs.Contents.{Pair, Operator, Ride, Contents, unheard, board-of}
 use Rattle.model.specs.Refusal.{build-refusal, query-refusal, peel-refusal}
 
 -- what a build gives: the number, and the board at exit
@@ -18,14 +18,16 @@ pub record BuildOutcome : Type 0 where
   pub code : ℕ
   pub board : Board
 
--- what a board says after a build: each listed pair a grant of the starting stamp and revision 0, the others nothing
+-- what a board says after a build: each listed pair a grant of the starting stamp and revision 0, all else never heard of
 abbrev pub start-contents : Graph → ℕ → Contents
 start-contents g start (Pair u v) =
-    record { stamp = elim (g .cleared u v) [ true ↦ start | false ↦ 0 ]; revision = 0; gives = g .cleared u v }
+    record { stamp = elim (g .cleared u v) [ true ↦ start | false ↦ 0 ]; revision = 0; word = bit (g .cleared u v) }
+start-contents g start (Operator u) = unheard (Operator u)
+start-contents g start (Ride v) = unheard (Ride v)
 
 -- Build, where no number applies
 unfoldable pub built : Board → ℕ → Board
-built b start = onto (board-of (b .head) (start-contents (board-graph b) start)) (b .part)
+built b start = onto (board-of (b .head) (start-contents (listed-graph b) start)) (b .part)
 
 -- Build
 unfoldable pub board-build : Board → ℕ → BuildOutcome
@@ -48,10 +50,11 @@ level-read h index α x =
       | false ↦ 0
     ]
 
--- the marks that a query sets: 1 for all without a limit, and else exactly if that level is at least β, and at least 1
-unfoldable pub query-marks : Head → List ℕ → ℕ → ℕ → List ℕ
-query-marks h index α β =
-    values (mark-places h) (λ x. bit (in-by-level (limits (h .operators) α β x) β (level-read h index α x)))
+-- the marks that a query sets, of those present alone: 1 for all without a limit, and else exactly if that level is at least β, and at least 1
+unfoldable pub query-marks : Head → List ℕ → List ℕ → ℕ → ℕ → List ℕ
+query-marks h index presence α β =
+    values (mark-places h)
+    (λ x. bit (present presence x && in-by-level (limits (h .operators) α β x) β (level-read h index α x)))
 
 -- the counts of operators and rides marked
 unfoldable pub counts : Head → List ℕ → Counts
@@ -63,10 +66,14 @@ counts h marks =
     }
 
 -- Query
-unfoldable pub board-query : Head → List ℕ → ℕ → ℕ → List ℕ → QueryOutcome
-board-query h index α β marks =
-    elim (query-refusal h index marks) [
-      | zero ↦ record { answer = counts h (query-marks h index α β); marks = over (query-marks h index α β) marks }
+unfoldable pub board-query : Head → List ℕ → List ℕ → ℕ → ℕ → List ℕ → QueryOutcome
+board-query h index presence α β marks =
+    elim (query-refusal h index presence marks) [
+      | zero ↦
+          record {
+            answer = counts h (query-marks h index presence α β);
+            marks = over (query-marks h index presence α β) marks;
+          }
       | suc k ↦ record { answer = record { code = suc k; operators = 0; rides = 0 }; marks = marks }
     ]
 
@@ -87,10 +94,15 @@ peeled g limit allowed marks =
       marks = peel g limit allowed marks;
     }
 
+-- the limits of a peel (α, β): whoever is off or out falls short
+abbrev pub peel-limits : Head → List ℕ → ℕ → ℕ → ℕ → ℕ
+peel-limits h presence α β = raised (mark-places h) (present presence) (limits (h .operators) α β)
+
 -- Peel; it clears no mark past the nodes
-unfoldable pub board-peel : Head → List ℕ → List ℕ → List ℕ → ℕ → ℕ → ℕ → PeelOutcome
-board-peel h operators rides marks α β allowed =
-    elim (peel-refusal h operators rides marks) [
-      | zero ↦ peeled (graph h operators rides) (limits (h .operators) α β) allowed marks
+unfoldable pub board-peel : Head → List ℕ → List ℕ → List ℕ → List ℕ → ℕ → ℕ → ℕ → PeelOutcome
+board-peel h operators rides presence marks α β allowed =
+    elim (peel-refusal h operators rides presence marks) [
+      | zero ↦
+          peeled (counting-graph h operators rides presence) (peel-limits h presence α β) allowed marks
       | suc k ↦ record { answer = record { code = suc k; settled = 0; steps = 0 }; marks = marks }
     ]

@@ -9,10 +9,10 @@ use lib.ListN.{length, getD, set, drop}
 use Rattle.model.specs.declared.Head.{Head}
 use Rattle.model.specs.declared.Message.{Message}
 use Rattle.model.specs.Count.{count, some}
-use Rattle.model.specs.Graph.{Graph, nodes, degree, everybody, Inside, Largest, limits, Core, marked, short, settled, removals, peel, cover, level, row-for, in-by-level, index-of}
-use Rattle.model.specs.Layout.{Part, Index, Board, mark-places, places, of-parts, exact, copied, sized, graph, board-graph}
-use Rattle.model.specs.Contents.{Pair, later, slot, entry, contents}
-use Rattle.model.specs.Refusal.{refused-1, refused-2, refused-7, refused-8, refused-9, first-number, board-short, valid-cases, build-refusal, list-refusal, peel-refusal}
+use Rattle.model.specs.Graph.{Graph, nodes, degree, everybody, Inside, Largest, limits, CoreInside, Core, marked, present, counting, raised, short, settled, removals, peel, cover, level, row-for, in-by-level, index-of}
+use Rattle.model.specs.Layout.{Part, Index, Presence, Board, mark-places, places, of-parts, exact, copied, sized, counting-graph, listed-graph, board-graph}
+use Rattle.model.specs.Contents.{Slot, Pair, Operator, Ride, later, slot, entry, contents}
+use Rattle.model.specs.Refusal.{refused-1, refused-2, refused-7, refused-8, refused-9, refused-14, outside, unused, first-number, board-short, valid-cases, build-refusal, list-refusal, peel-refusal}
 use Rattle.model.specs.Calls.{QueryOutcome, PeelOutcome, query-marks, board-build, board-query, board-peel}
 use Rattle.model.specs.Message.{board-message, board-preview, board-messages}
 
@@ -82,28 +82,50 @@ pub record LevelLaws : Type 0 where
   -- row α starts at (α − 1) × (operators + rides)
   pub place : (g : Graph) (α x : ℕ) → 1 ≤ α → α ≤ g .rides → x < nodes g → getD (index-of g) ((α - 1) * nodes g + x) 0 ≡ level g α x
 
--- Document 02, 2.1, sentence by sentence, of what a query marks on any index; ride v is node operators + v
-pub record ZeroIsNoLimit (h : Head) (index : List ℕ) : Type 0 where
+-- Document 02, 2.1, sentence by sentence, of what a query marks on any index, of those present; ride v is node operators + v
+pub record ZeroIsNoLimit (h : Head) (index presence : List ℕ) : Type 0 where
   -- with α = 0 all operators are in, and a ride is in if its row 1 level is at least β
-  pub all-operators : (β u : ℕ) → u < h .operators → T (marked (query-marks h index 0 β) u)
-  pub rides-by-row-1 : (β v : ℕ) → v < h .rides → marked (query-marks h index 0 β) (h .operators + v) ≡ leb β (getD index (h .operators + v) 0)
+  pub all-operators : (β u : ℕ) → u < h .operators → marked (query-marks h index presence 0 β) u ≡ present presence u
+  pub rides-by-row-1 : (β v : ℕ) → v < h .rides →
+      marked (query-marks h index presence 0 β) (h .operators + v) ≡ (present presence (h .operators + v) && leb β (getD index (h .operators + v) 0))
   -- with β = 0 all rides are in, and an operator is in if its row α level is at least 1
-  pub all-rides : (α v : ℕ) → v < h .rides → T (marked (query-marks h index α 0) (h .operators + v))
+  pub all-rides : (α v : ℕ) → v < h .rides → marked (query-marks h index presence α 0) (h .operators + v) ≡ present presence (h .operators + v)
   pub operators-by-row : (α u : ℕ) → 1 ≤ α → α ≤ h .rides → u < h .operators →
-      marked (query-marks h index α 0) u ≡ leb 1 (getD index ((α - 1) * mark-places h + u) 0)
+      marked (query-marks h index presence α 0) u ≡ (present presence u && leb 1 (getD index ((α - 1) * mark-places h + u) 0))
   -- for α above rides β = 0 marks the rides alone
-  pub rides-alone : (α u : ℕ) → h .rides < α → u < h .operators → marked (query-marks h index α 0) u ≡ false
+  pub rides-alone : (α u : ℕ) → h .rides < α → u < h .operators → marked (query-marks h index presence α 0) u ≡ false
   -- with both 0 everyone is in
-  pub everyone : (x : ℕ) → x < mark-places h → T (marked (query-marks h index 0 0) x)
+  pub everyone : (x : ℕ) → x < mark-places h → marked (query-marks h index presence 0 0) x ≡ present presence x
   -- limits from 1 are document 01's: the row α level is at least β, and α above rides marks nobody
   pub from-one : (α β x : ℕ) → 1 ≤ α → 1 ≤ β → x < mark-places h →
-      marked (query-marks h index α β) x ≡ (leb α (h .rides) && leb β (getD index ((α - 1) * mark-places h + x) 0))
+      marked (query-marks h index presence α β) x ≡ (present presence x && (leb α (h .rides) && leb β (getD index ((α - 1) * mark-places h + x) 0)))
+
+-- Document 02, 2.4: whoever is off or out falls short of every limit, 0 included, and is in no cover
+pub record PresenceLaws : Type 0 where
+  -- whoever is marked and not here falls short, whatever the limits; for who is here nothing changes
+  pub falls-short : (g : Graph) (here : ℕ → Bool) (limit : ℕ → ℕ) (s : List ℕ) (x : ℕ) → here x ≡ false → T (marked s x) →
+      T (short g (raised (nodes g) here limit) s x)
+  pub as-before : (g : Graph) (here : ℕ → Bool) (limit : ℕ → ℕ) (s : List ℕ) (x : ℕ) → T (here x) →
+      short g (raised (nodes g) here limit) s x ≡ short g limit s x
+  -- the largest set under these limits is the largest of those who are here under the plain ones
+  pub largest : (g : Graph) (here : ℕ → Bool) (limit : ℕ → ℕ) (start s : ℕ → Bool) →
+      Largest g (raised (nodes g) here limit) start s ↔ Largest g limit (λ x. start x && here x) s
+  -- of the pairs that count it is in no pair, and has level 0 in every row from 1
+  pub no-pair : (g : Graph) (here s : ℕ → Bool) (x : ℕ) → here x ≡ false → x < nodes g → degree (counting g here) s x ≡ 0
+  pub no-level : (g : Graph) (here : ℕ → Bool) (α x : ℕ) → here x ≡ false → 1 ≤ α → x < nodes g → level (counting g here) α x ≡ 0
+  -- where everybody is here all pairs count
+  pub all-count : (g : Graph) (here : ℕ → Bool) → ((x : ℕ) → x < nodes g → T (here x)) → (u v : ℕ) → u < g .operators → v < g .rides →
+      counting g here .cleared u v ≡ g .cleared u v
+  -- a query marks nobody who is off or out, whatever index came in
+  pub query : (h : Head) (index presence : List ℕ) (α β x : ℕ) → present presence x ≡ false → x < mark-places h →
+      marked (query-marks h index presence α β) x ≡ false
 
 -- Document 02, 2.1: no call gives 11, and a list that isn't refused gives it to none of its messages
 pub record NeverEleven : Type 0 where
   pub build : (b : Board) (start : ℕ) → board-build b start .code ≢ 11
-  pub query : (h : Head) (index : List ℕ) (α β : ℕ) (marks : List ℕ) → board-query h index α β marks .answer .code ≢ 11
-  pub peel : (h : Head) (operators rides marks : List ℕ) (α β allowed : ℕ) → board-peel h operators rides marks α β allowed .answer .code ≢ 11
+  pub query : (h : Head) (index presence : List ℕ) (α β : ℕ) (marks : List ℕ) → board-query h index presence α β marks .answer .code ≢ 11
+  pub peel : (h : Head) (operators rides presence marks : List ℕ) (α β allowed : ℕ) →
+      board-peel h operators rides presence marks α β allowed .answer .code ≢ 11
   pub message : (b : Board) (m : Message) → board-message b m .answer .code ≢ 11
   pub preview : (b : Board) (m : Message) (spare : Board) → board-preview b m spare .answer .code ≢ 11
   pub messages : (b : Board) (ms : List Message) (answers : List ℕ) → board-messages b ms answers .code ≢ 11
@@ -131,75 +153,99 @@ pub record PreviewLaws (b : Board) (m : Message) (spare : Board) : Type 0 where
   pub any-board : (other : Board) → board-preview b m spare .answer .code ≡ 0 → board-preview b m other .answer .code ≡ 0 →
       exact (board-preview b m spare .board) ≡ exact (board-preview b m other .board)
 
--- Document 02, 2.3, of what a build and a message leave and answer, whatever revisions a board stores
-pub record RevisionLaws : Type 0 where
-  -- a build sets 0 for every pair
+-- Document 02, 2.3 and 2.4, of what a build and a message leave and answer, whatever revisions and words a board stores
+pub record EntryLaws : Type 0 where
+  -- a build sets revision 0 for every pair, and everybody on and in, with stamp and revision 0
   pub build : (b : Board) (start u v : ℕ) → board-build b start .code ≡ 0 → u < b .head .operators → v < b .head .rides →
       contents (board-build b start .board) (Pair u v) .revision ≡ 0
-  -- a taken message leaves its own, with its stamp and kind, and every other pair keeps what it had
+  pub build-operator : (b : Board) (start u : ℕ) → board-build b start .code ≡ 0 → u < b .head .operators →
+      contents (board-build b start .board) (Operator u) ≡ record { stamp = 0; revision = 0; word = 1 }
+  pub build-ride : (b : Board) (start v : ℕ) → board-build b start .code ≡ 0 → v < b .head .rides →
+      contents (board-build b start .board) (Ride v) ≡ record { stamp = 0; revision = 0; word = 1 }
+  -- a taken message leaves its own stamp, revision and word, and every other pair, operator and ride keeps what it had
   pub own : (b : Board) (m : Message) → board-message b m .answer .code ≡ 0 → contents (board-message b m .board) (slot m) ≡ entry m
-  pub others : (b : Board) (m : Message) (u v : ℕ) → board-message b m .answer .code ≡ 0 → u < b .head .operators → v < b .head .rides → Pair u v ≢ slot m →
-      contents (board-message b m .board) (Pair u v) ≡ contents b (Pair u v)
-  -- where none of 1 to 6 applies: 14 for a revision over 255, if none of 7 to 9 applies; and a valid message is taken exactly if it is later than its pair's last
+  pub others : (b : Board) (m : Message) (t : Slot) → board-message b m .answer .code ≡ 0 → outside (b .head) t ≡ false → t ≢ slot m →
+      contents (board-message b m .board) t ≡ contents b t
+  -- where none of 1 to 6 applies: 14 for a revision over 255, if none of 7 to 9 applies; 15 for an unused field that isn't 0, if none of these applies
   pub fourteen : (b : Board) (m : Message) → list-refusal b 0 [] ≡ 0 →
       first-number ((7, refused-7 m) ∷ (8, refused-8 (b .head) m) ∷ (9, refused-9 (m .stamp)) ∷ []) ≡ 0 → 255 < m .revision → board-message b m .answer .code ≡ 14
+  pub fifteen : (b : Board) (m : Message) → list-refusal b 0 [] ≡ 0 →
+      first-number ((7, refused-7 m) ∷ (8, refused-8 (b .head) m) ∷ (9, refused-9 (m .stamp)) ∷ (14, refused-14 m) ∷ []) ≡ 0 → unused (slot m) m ≢ 0 →
+      board-message b m .answer .code ≡ 15
+  -- and a valid message is taken exactly if it is later than the last of its pair, operator or ride
   pub taken : (b : Board) (m : Message) → list-refusal b 0 [] ≡ 0 → first-number (valid-cases (b .head) m) ≡ 0 →
       (board-message b m .answer .code ≡ 0) ↔ T (later (entry m) (contents b (slot m)))
 
--- Demand 2 for queries: on the index of any clearances of the head's sizes the marks are the (α, β)-core, for every α and β from 0
+-- Demand 2 for queries: on the index of any clearances of the head's sizes that count, the marks are the largest set of those present under
+-- α and β, for every α and β from 0
 abbrev pub QueryIsCore : Type 0
 QueryIsCore =
-    (h : Head) (cleared : ℕ → ℕ → Bool) (α β : ℕ) →
-    Core (sized h cleared) α β (marked (query-marks h (index-of (sized h cleared)) α β))
+    (h : Head) (cleared : ℕ → ℕ → Bool) (presence : List ℕ) (α β : ℕ) →
+    let g = counting (sized h cleared) (present presence) in
+    CoreInside g (present presence) α β (marked (query-marks h (index-of g) presence α β))
 
--- what a query gives is the (α, β)-core, with its sizes
-pub record IsCore (g : Graph) (α β : ℕ) (o : QueryOutcome) : Type 0 where
+-- what a query gives is the (α, β)-core of those who are here, with its sizes
+pub record IsCore (g : Graph) (here : ℕ → Bool) (α β : ℕ) (o : QueryOutcome) : Type 0 where
   pub code : o .answer .code ≡ 0
-  pub core : Core g α β (marked (o .marks))
+  pub core : CoreInside g here α β (marked (o .marks))
   pub operators : o .answer .operators ≡ count (g .operators) (marked (o .marks))
   pub rides : o .answer .rides ≡ count (g .rides) (λ v. marked (o .marks) (g .operators + v))
 
 -- the same of the call, with any words behind the index: its marks are the core, and its counts the core's sizes
 abbrev pub IndexThenQuery : Type 0
 IndexThenQuery =
-    (h : Head) (cleared : ℕ → ℕ → Bool) (more : List ℕ) (α β : ℕ) (marks : List ℕ) →
+    (h : Head) (cleared : ℕ → ℕ → Bool) (presence more : List ℕ) (α β : ℕ) (marks : List ℕ) →
     h .operators ≤ 200 →
     h .rides ≤ 60 →
+    mark-places h ≤ length presence →
     mark-places h ≤ length marks →
-    IsCore (sized h cleared) α β (board-query h (index-of (sized h cleared) ++ more) α β marks)
+    let g = counting (sized h cleared) (present presence) in
+    IsCore g (present presence) α β (board-query h (index-of g ++ more) presence α β marks)
 
--- the same of the index that the build of an accepted table left
+-- the same of the index and the presence words that the build of an accepted table left: the core of all its pairs, with everybody here
 abbrev pub BuildThenQuery : Type 0
 BuildThenQuery =
     (b : Board) (start α β : ℕ) (marks : List ℕ) →
     build-refusal b start ≡ 0 →
     mark-places (b .head) ≤ length marks →
-    IsCore (board-graph b) α β (board-query (b .head) (board-build b start .board .part Index) α β marks)
+    let left = board-build b start .board in
+    IsCore (listed-graph b) everybody α β (board-query (b .head) (left .part Index) (left .part Presence) α β marks)
 
--- the same of the index that a preview left in spare memory: the core of the pairs that the spare board lists
+-- the same of the index and the presence words that a preview left in spare memory: the core of the pairs of the spare board that count
 abbrev pub PreviewThenQuery : Type 0
 PreviewThenQuery =
     (b : Board) (m : Message) (spare : Board) (α β : ℕ) (marks : List ℕ) →
     board-preview b m spare .answer .code ≡ 0 →
     mark-places (b .head) ≤ length marks →
     let left = board-preview b m spare .board in
-    IsCore (board-graph left) α β (board-query (left .head) (left .part Index) α β marks)
+    IsCore (board-graph left) (present (left .part Presence)) α β (board-query (left .head) (left .part Index) (left .part Presence) α β marks)
 
--- what a peel from all ones gives, with so many steps allowed: settled, its marks are the (α, β)-core; one step was taken for each node
--- that is out; and as many steps as there are nodes are enough to settle
-pub record IsPeeledCore (g : Graph) (α β allowed : ℕ) (o : PeelOutcome) : Type 0 where
+-- Demand 2 for peels: settled marks are the largest set, of the marks that came in and those present, under α and β from 0, of any peel that
+-- isn't refused
+abbrev pub PeelIsLargest : Type 0
+PeelIsLargest =
+    (h : Head) (operators rides presence marks : List ℕ) (α β allowed : ℕ) →
+    peel-refusal h operators rides presence marks ≡ 0 →
+    let o = board-peel h operators rides presence marks α β allowed in
+    o .answer .settled ≡ 1 →
+    Largest (counting-graph h operators rides presence) (limits (h .operators) α β) (λ x. marked marks x && present presence x) (marked (o .marks))
+
+-- what a peel from all ones gives, with so many steps allowed: settled, its marks are the (α, β)-core of those who are here; one step was taken
+-- for each node that is out; and as many steps as there are nodes are enough to settle
+pub record IsPeeledCore (g : Graph) (here : ℕ → Bool) (α β allowed : ℕ) (o : PeelOutcome) : Type 0 where
   pub code : o .answer .code ≡ 0
-  pub core : o .answer .settled ≡ 1 → Core g α β (marked (o .marks))
+  pub core : o .answer .settled ≡ 1 → CoreInside g here α β (marked (o .marks))
   pub steps : o .answer .steps ≡ nodes g - members g (o .marks)
   pub settles : nodes g ≤ allowed → o .answer .settled ≡ 1
 
--- Demand 2 for peels: "from all ones this is the cover", of any peel that isn't refused
+-- "from all ones this is the cover", of any peel that isn't refused
 abbrev pub PeelIsCore : Type 0
 PeelIsCore =
-    (h : Head) (operators rides marks : List ℕ) (α β allowed : ℕ) →
-    peel-refusal h operators rides marks ≡ 0 →
-    AllOnes (graph h operators rides) marks →
-    IsPeeledCore (graph h operators rides) α β allowed (board-peel h operators rides marks α β allowed)
+    (h : Head) (operators rides presence marks : List ℕ) (α β allowed : ℕ) →
+    peel-refusal h operators rides presence marks ≡ 0 →
+    let g = counting-graph h operators rides presence in
+    AllOnes g marks →
+    IsPeeledCore g (present presence) α β allowed (board-peel h operators rides presence marks α β allowed)
 
 -- below the sizes the clearances c have all of g's, and further ones, if any, of the operator u alone
 pub record Gained (g : Graph) (c : ℕ → ℕ → Bool) (u : ℕ) : Type 0 where

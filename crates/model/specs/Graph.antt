@@ -1,4 +1,5 @@
--- Document 000, Definition 2.1; document 01, Terms and Peel; document 02, 2.1: degree, the largest set under limits, peel, cover, level, index.
+-- Document 000, Definition 2.1; document 01, Terms and Peel; document 02, 2.1 and 2.4: degree, the largest set under limits, counting pairs, peel,
+-- cover, level, index.
 -- Nodes are numbered as marks and index rows are: operators 0 .. operators - 1, then rides.
 use mathlib.Core.Bool.{Bool, true, false, _&&_, _||_, not}
 use mathlib.Core.List.{List, [], _∷_}
@@ -47,13 +48,34 @@ pub record Largest (g : Graph) (limit : ℕ → ℕ) (start s : ℕ → Bool) : 
 unfoldable pub limits : ℕ → ℕ → ℕ → ℕ → ℕ
 limits operators α β x = elim (ltb x operators) [ true ↦ α | false ↦ β ]
 
+-- Definition 2.1 inside a set: s is the largest set of those who are here whose nodes all meet the limits (α, β)
+abbrev pub CoreInside : Graph → (ℕ → Bool) → ℕ → ℕ → (ℕ → Bool) → Type 0
+CoreInside g here α β s = Largest g (limits (g .operators) α β) here s
+
 -- Definition 2.1: s is the (α, β)-core
 abbrev pub Core : Graph → ℕ → ℕ → (ℕ → Bool) → Type 0
-Core g α β s = Largest g (limits (g .operators) α β) everybody s
+Core g α β s = CoreInside g everybody α β s
 
 -- the set that Marks stand for: 1 is in
 abbrev pub marked : List ℕ → ℕ → Bool
 marked s x = eqb (getD s x 0) 1
+
+-- Document 02, 2.4: who is present by these words: 1 is on shift or in service, any other word is off or out
+abbrev pub present : List ℕ → ℕ → Bool
+present words x = marked words x
+
+-- Document 02, 2.4: the pairs that count are cleared, with the operator and the ride both here
+abbrev pub counting : Graph → (ℕ → Bool) → Graph
+counting g here =
+    record {
+      operators = g .operators;
+      rides = g .rides;
+      cleared = λ u v. g .cleared u v && (here u && here (g .operators + v));
+    }
+
+-- Document 02, 2.4: the limits of so many nodes under which whoever is not here falls short, limit 0 included: no degree is above that number
+unfoldable pub raised : ℕ → (ℕ → Bool) → (ℕ → ℕ) → ℕ → ℕ
+raised nodes here limit x = elim (here x) [ true ↦ limit x | false ↦ suc nodes ]
 
 -- who falls short: marked, with fewer marked neighbours than its limit
 unfoldable pub short : Graph → (ℕ → ℕ) → List ℕ → ℕ → Bool

@@ -1,4 +1,5 @@
--- Document 01, Layout: the parts of a board and their lengths, what is said of every part, and the clearance graph of a pair table.
+-- Document 01, Layout, with document 02, 2.3 and 2.4: the parts of a board and their lengths, what is said of every part, and the clearance graphs
+-- of a pair table and of a board.
 use mathlib.Core.Bool.{Bool, false, _&&_, _||_, not}
 use mathlib.Core.List.{List, [], _∷_, _++_}
 use Prim.Native.Nat.{ℕ, _+_, _*_}
@@ -6,13 +7,13 @@ use lib.Dec.{eqb}
 use lib.ListN.{length, getD, take, drop}
 use Rattle.model.specs.declared.Head.{Head}
 use Rattle.model.specs.Count.{count, some}
-use Rattle.model.specs.Graph.{Graph}
+use Rattle.model.specs.Graph.{Graph, counting, present}
 
 -- Pair arrays, Stamps and Revisions: operators × rides places
 abbrev pub pair-places : Head → ℕ
 pair-places h = h .operators * h .rides
 
--- Marks, and one row of the Index: a place for each operator, then each ride
+-- Marks, one row of the Index, and presence stamps, revisions and words: a place for each operator, then each ride
 abbrev pub mark-places : Head → ℕ
 mark-places h = h .operators + h .rides
 
@@ -20,17 +21,21 @@ mark-places h = h .operators + h .rides
 abbrev pub index-places : Head → ℕ
 index-places h = h .rides * (h .operators + h .rides)
 
--- the parts of a board, in the order in which they are lent: the two pair arrays, stamps, revisions, index
+-- the parts of a board, in the order in which they are lent: the two pair arrays, stamps, revisions, index; and of operators and rides their
+-- stamps, revisions and words
 pub data Part : Type 0 where
   Operators : Part
   Rides : Part
   Stamps : Part
   Revisions : Part
   Index : Part
+  PresenceStamps : Part
+  PresenceRevisions : Part
+  Presence : Part
 
 -- all of them
 abbrev pub all-parts : List Part
-all-parts = Operators ∷ Rides ∷ Stamps ∷ Revisions ∷ Index ∷ []
+all-parts = Operators ∷ Rides ∷ Stamps ∷ Revisions ∷ Index ∷ PresenceStamps ∷ PresenceRevisions ∷ Presence ∷ []
 
 -- the places that each has
 abbrev pub places : Head → Part → ℕ
@@ -39,6 +44,9 @@ places h Rides = pair-places h
 places h Stamps = pair-places h
 places h Revisions = pair-places h
 places h Index = index-places h
+places h PresenceStamps = mark-places h
+places h PresenceRevisions = mark-places h
+places h Presence = mark-places h
 
 -- the words of each part
 abbrev pub Parts : Type 0
@@ -50,20 +58,24 @@ pub record Board : Type 0 where
   pub part : Parts
 
 -- the parts as a call names them
-abbrev pub parts : List ℕ → List ℕ → List ℕ → List ℕ → List ℕ → Parts
-parts operators rides stamps revisions index Operators = operators
-parts operators rides stamps revisions index Rides = rides
-parts operators rides stamps revisions index Stamps = stamps
-parts operators rides stamps revisions index Revisions = revisions
-parts operators rides stamps revisions index Index = index
+abbrev pub parts : (operators rides stamps revisions index presence-stamps presence-revisions presence : List ℕ) → Parts
+parts operators rides stamps revisions index presence-stamps presence-revisions presence Operators = operators
+parts operators rides stamps revisions index presence-stamps presence-revisions presence Rides = rides
+parts operators rides stamps revisions index presence-stamps presence-revisions presence Stamps = stamps
+parts operators rides stamps revisions index presence-stamps presence-revisions presence Revisions = revisions
+parts operators rides stamps revisions index presence-stamps presence-revisions presence Index = index
+parts operators rides stamps revisions index presence-stamps presence-revisions presence PresenceStamps = presence-stamps
+parts operators rides stamps revisions index presence-stamps presence-revisions presence PresenceRevisions = presence-revisions
+parts operators rides stamps revisions index presence-stamps presence-revisions presence Presence = presence
 
 -- the board of a head and parts
 abbrev pub of-parts : Head → Parts → Board
 of-parts h words = record { head = h; part = words }
 
 -- the board of these lent parts
-abbrev pub lent : Head → List ℕ → List ℕ → List ℕ → List ℕ → List ℕ → Board
-lent h operators rides stamps revisions index = of-parts h (parts operators rides stamps revisions index)
+abbrev pub lent : Head → (operators rides stamps revisions index presence-stamps presence-revisions presence : List ℕ) → Board
+lent h operators rides stamps revisions index presence-stamps presence-revisions presence =
+    of-parts h (parts operators rides stamps revisions index presence-stamps presence-revisions presence)
 
 -- one of these parts passes the test
 abbrev pub some-part : (Part → Bool) → List Part → Bool
@@ -102,9 +114,17 @@ sized h cleared = record { operators = h .operators; rides = h .rides; cleared =
 abbrev pub graph : Head → List ℕ → List ℕ → Graph
 graph h operators rides = sized h (listed (h .pairs) operators rides)
 
--- the clearance graph of a board
+-- the pairs of a pair table that count, by presence words
+abbrev pub counting-graph : Head → List ℕ → List ℕ → List ℕ → Graph
+counting-graph h operators rides presence = counting (graph h operators rides) (present presence)
+
+-- all clearances of a board: its listed pairs
+abbrev pub listed-graph : Board → Graph
+listed-graph b = graph (b .head) (b .part Operators) (b .part Rides)
+
+-- the clearance graph of a board: its listed pairs that count
 abbrev pub board-graph : Board → Graph
-board-graph b = graph (b .head) (b .part Operators) (b .part Rides)
+board-graph b = counting-graph (b .head) (b .part Operators) (b .part Rides) (b .part Presence)
 
 -- the number of words that differ, of the first k
 unfoldable pub differing : ℕ → List ℕ → List ℕ → ℕ

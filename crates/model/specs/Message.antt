@@ -13,7 +13,7 @@ pub record MessageOutcome : Type 0 where
   pub answer : Answer
   pub board : Board
 
--- the board after a taken message: it says the message's entry at the message's slot, and all else as before; the index is that of the new pairs
+-- the board after a taken message: it says the message's entry at the message's slot, and all else as before; the index is that of the pairs that then count
 unfoldable pub board-after : Board → Message → Board
 board-after b m = onto (board-of (b .head) (put (contents b) (slot m) (entry m))) (b .part)
 

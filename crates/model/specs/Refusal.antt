@@ -1,5 +1,5 @@
 -- Document 01, What the controller is told: one test for each of the numbers 1 to 10 and 12, and the numbers that each call checks.
--- Document 02, 2.1: 11 is never given; 2.3: 14.
+-- Document 02, 2.1: 11 is never given; 2.3: 14; 2.4: 15, and 7, 8 and 10 of six kinds.
 use mathlib.Core.Bool.{Bool, true, false, _&&_, _||_, not}
 use mathlib.Core.List.{List, [], _∷_, _++_}
 use Prim.Native.Nat.{ℕ, zero, suc, _+_}
@@ -9,7 +9,7 @@ use Rattle.model.specs.declared.Head.{Head}
 use Rattle.model.specs.declared.Message.{Message}
 use Rattle.model.specs.Count.{some}
 use Rattle.model.specs.Layout.{Operators, Rides, Stamps, Parts, Board, pair-places, mark-places, index-places, places, all-parts, some-part, of-parts}
-use Rattle.model.specs.Contents.{later, slot, entry, contents, pair-place}
+use Rattle.model.specs.Contents.{Slot, Pair, Operator, Ride, later, slot, entry, contents, pair-place}
 
 -- 1: operators over 200
 abbrev pub refused-1 : Head → Bool
@@ -55,19 +55,25 @@ refused-6 b =
     some (b .head .pairs)
     (λ i. eqb (getD (b .part Stamps) (pair-place (b .head) (getD (b .part Operators) i 0) (getD (b .part Rides) i 0)) 0) 0)
 
--- 7: message: kind not 1 or 2
+-- 7: message: kind not 1 to 6
 abbrev pub refused-7 : Message → Bool
-refused-7 m = not (eqb (m .kind) 1 || eqb (m .kind) 2)
+refused-7 m = not (leb 1 (m .kind) && leb (m .kind) 6)
 
--- 8: message: operator or ride out of range
+-- a slot is out of range
+abbrev pub outside : Head → Slot → Bool
+outside h (Pair u v) = out-of-range h u v
+outside h (Operator u) = leb (h .operators) u
+outside h (Ride v) = leb (h .rides) v
+
+-- 8: message: operator or ride out of range, of the fields that the kind uses
 abbrev pub refused-8 : Head → Message → Bool
-refused-8 h m = out-of-range h (m .operator) (m .ride)
+refused-8 h m = outside h (slot m)
 
 -- 9: message or starting stamp is 0
 abbrev pub refused-9 : ℕ → Bool
 refused-9 stamp = eqb stamp 0
 
--- 10: message not later than the pair's last
+-- 10: message not later than the last of its pair, operator or ride
 unfoldable pub refused-10 : Board → Message → Bool
 refused-10 b m = not (later (entry m) (contents b (slot m)))
 
@@ -78,6 +84,16 @@ refused-12 h marks = some (mark-places h) (λ x. ltb 1 (getD marks x 0))
 -- 14: message: revision over 255
 abbrev pub refused-14 : Message → Bool
 refused-14 m = ltb 255 (m .revision)
+
+-- the field of a message that its slot doesn't use; a pair uses both
+abbrev pub unused : Slot → Message → ℕ
+unused (Pair u v) m = 0
+unused (Operator u) m = m .ride
+unused (Ride v) m = m .operator
+
+-- 15: message: an unused field is not 0
+abbrev pub refused-15 : Message → Bool
+refused-15 m = not (eqb (unused (slot m) m) 0)
 
 -- the first number that applies, in the order of the list; 0 if none does
 unfoldable pub first-number : List (ℕ × Bool) → ℕ
@@ -99,25 +115,28 @@ build-refusal b start =
     first-number (table-cases (b .head) (board-short b) (b .part Operators) (b .part Rides) ++ (9, refused-9 start) ∷ [])
 
 -- query: 1 to 3
-unfoldable pub query-refusal : Head → List ℕ → List ℕ → ℕ
-query-refusal h index marks =
-    first-number
-    ((1, refused-1 h) ∷ (2, refused-2 h) ∷ (3, refused-3 (index-places h) index || refused-3 (mark-places h) marks) ∷ [])
+unfoldable pub query-refusal : Head → List ℕ → List ℕ → List ℕ → ℕ
+query-refusal h index presence marks =
+    first-number (
+    (1, refused-1 h) ∷ (2, refused-2 h) ∷
+    (3, refused-3 (index-places h) index || refused-3 (mark-places h) presence || refused-3 (mark-places h) marks) ∷ []
+    )
 
 -- 1 to 6, of a board; too-short is the call's own 3
 abbrev pub board-cases : Board → Bool → List (ℕ × Bool)
 board-cases b too-short =
     table-cases (b .head) too-short (b .part Operators) (b .part Rides) ++ (6, refused-6 b) ∷ []
 
--- 7 to 9 and 14, of a message: it is valid if none of them applies
+-- 7 to 9, 14 and 15, of a message: it is valid if none of them applies
 abbrev pub valid-cases : Head → Message → List (ℕ × Bool)
-valid-cases h m = (7, refused-7 m) ∷ (8, refused-8 h m) ∷ (9, refused-9 (m .stamp)) ∷ (14, refused-14 m) ∷ []
+valid-cases h m =
+    (7, refused-7 m) ∷ (8, refused-8 h m) ∷ (9, refused-9 (m .stamp)) ∷ (14, refused-14 m) ∷ (15, refused-15 m) ∷ []
 
--- 7 to 9, 14 and then 10, of a message on a board
+-- 7 to 9, 14, 15 and then 10, of a message on a board
 abbrev pub message-cases : Board → Message → List (ℕ × Bool)
 message-cases b m = valid-cases (b .head) m ++ (10, refused-10 b m) ∷ []
 
--- message: 1 to 9, 14, 10
+-- message: 1 to 9, 14, 15, 10
 unfoldable pub message-refusal : Board → Message → ℕ
 message-refusal b m = first-number (board-cases b (board-short b) ++ message-cases b m)
 
@@ -131,8 +150,10 @@ unfoldable pub list-refusal : Board → ℕ → List ℕ → ℕ
 list-refusal b messages answers = first-number (board-cases b (board-short b || refused-3 messages answers))
 
 -- peel: 1 to 5 and 12
-unfoldable pub peel-refusal : Head → List ℕ → List ℕ → List ℕ → ℕ
-peel-refusal h operators rides marks =
+unfoldable pub peel-refusal : Head → List ℕ → List ℕ → List ℕ → List ℕ → ℕ
+peel-refusal h operators rides presence marks =
     first-number
-    (table-cases h (refused-3 (pair-places h) operators || refused-3 (pair-places h) rides || refused-3 (mark-places h) marks) operators rides ++
+    (table-cases h
+    (refused-3 (pair-places h) operators || refused-3 (pair-places h) rides || refused-3 (mark-places h) presence || refused-3 (mark-places h) marks)
+    operators rides ++
     (12, refused-12 h marks) ∷ [])

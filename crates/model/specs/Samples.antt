@@ -6,7 +6,7 @@ use Prim.Native.Nat.{ℕ, _-_, _*_}
 use lib.ListN.{getD, take, drop, replicate}
 use Rattle.model.specs.declared.Message.{Message}
 use Rattle.model.specs.Graph.{Graph, limits, removals, cover, row}
-use Rattle.model.specs.Layout.{Operators, Rides, Stamps, Revisions, Index, Board, mark-places, lent, board-graph}
+use Rattle.model.specs.Layout.{Operators, Rides, Stamps, Revisions, Index, PresenceStamps, PresenceRevisions, Presence, Board, mark-places, lent, listed-graph, board-graph}
 use Rattle.model.specs.Calls.{PeelOutcome, board-build, board-query, board-peel}
 use Rattle.model.specs.Message.{MessageOutcome, board-message, board-preview}
 
@@ -20,14 +20,17 @@ table =
     (replicate 12 9)
     (replicate 12 9)
     (replicate 21 9)
+    (replicate 7 9)
+    (replicate 7 9)
+    (replicate 7 9)
 
 -- its clearances
 abbrev board : Graph
-board = board-graph table
+board = listed-graph table
 
 -- its peel (2,2), from marks and with a number of allowed steps
 abbrev peel-2-2 : List ℕ → ℕ → PeelOutcome
-peel-2-2 marks allowed = board-peel (table .head) (table .part Operators) (table .part Rides) marks 2 2 allowed
+peel-2-2 marks allowed = board-peel (table .head) (table .part Operators) (table .part Rides) (replicate 7 1) marks 2 2 allowed
 
 -- a peel's number, settled and steps
 abbrev answer : PeelOutcome → List ℕ
@@ -79,13 +82,15 @@ samples =
 -- what a query gives on a board just built: its number, its counts, and the marks
 abbrev asked : Board → ℕ → ℕ → List ℕ
 asked b α β =
-    let o = board-query (b .head) (board-build b 1 .board .part Index) α β (replicate (mark-places (b .head)) 9) in
+    let left = board-build b 1 .board in
+    let o = board-query (b .head) (left .part Index) (left .part Presence) α β (replicate (mark-places (b .head)) 9) in
     o .answer .code ∷ o .answer .operators ∷ o .answer .rides ∷ o .marks
 
 -- the marks that a peel from all ones leaves
 abbrev left : Board → ℕ → ℕ → List ℕ
 left b α β =
-    board-peel (b .head) (b .part Operators) (b .part Rides) (replicate (mark-places (b .head)) 1) α β (mark-places (b .head)) .marks
+    let ones : List ℕ = replicate (mark-places (b .head)) 1 in
+    board-peel (b .head) (b .part Operators) (b .part Rides) ones ones α β (mark-places (b .head)) .marks
 
 -- a row for limits (α, β): what a query and a peel give, and the counts and marks that both should have
 abbrev limits-row : Board → ℕ → ℕ → ℕ → ℕ → List ℕ → List ℕ × List ℕ
@@ -93,10 +98,11 @@ limits-row b α β operators rides marks = (asked b α β ++ left b α β, (0 �
 
 -- boards of two operators and no ride, and of no operator and two rides
 abbrev no-rides : Board
-no-rides = lent (record { operators = 2; rides = 0; pairs = 0 }) [] [] [] [] []
+no-rides = lent (record { operators = 2; rides = 0; pairs = 0 }) [] [] [] [] [] (9 ∷ 9 ∷ []) (9 ∷ 9 ∷ []) (9 ∷ 9 ∷ [])
 
 abbrev no-operators : Board
-no-operators = lent (record { operators = 0; rides = 2; pairs = 0 }) [] [] [] [] (replicate 4 9)
+no-operators =
+    lent (record { operators = 0; rides = 2; pairs = 0 }) [] [] [] [] (replicate 4 9) (9 ∷ 9 ∷ []) (9 ∷ 9 ∷ []) (9 ∷ 9 ∷ [])
 
 -- limits of 0, by hand from rows 1 and 2 above:
 -- (0,2) all operators, and the rides of level 2 in row 1: all. (2,0) all rides, and the operators of level 1 in row 2: 0, 1, 2. (0,0) everyone.
@@ -126,6 +132,9 @@ spare places =
     (replicate 13 9)
     (replicate 13 9)
     (replicate places 9)
+    (replicate 8 9)
+    (replicate 8 9)
+    (replicate 8 9)
 
 -- what the preview of a message for the pair (0,0), of revision 3, gives on the board built at stamp 1
 abbrev previewed : ℕ → ℕ → MessageOutcome
@@ -139,7 +148,7 @@ numbers o =
 
 -- previews, by hand. Without (0,0) ride 0 has operator 1 alone: in row 1 it falls from 2 to 1. In row 2 operator 0 has one ride and is out;
 -- operators 1 and 2 and all rides are in cover (2,1), and in (2,2) nobody. So 1 + 4 words differ.
--- A message of kind 3 gets 7, and a spare index one place short 3: nothing of the spare board changes.
+-- A message of kind 7 gets 7, and a spare index one place short 3: nothing of the spare board changes.
 unfoldable pub preview-samples : List (List ℕ × List ℕ)
 preview-samples =
     (numbers (previewed 2 22), 0 ∷ 5 ∷ 4 ∷ 3 ∷ 6 ∷ []) ∷
@@ -150,10 +159,10 @@ preview-samples =
     (index-row (previewed 2 22 .board) 1, 3 ∷ 3 ∷ 3 ∷ 2 ∷ 1 ∷ 3 ∷ 2 ∷ []) ∷
     (index-row (previewed 2 22 .board) 2, 0 ∷ 1 ∷ 1 ∷ 0 ∷ 1 ∷ 1 ∷ 1 ∷ []) ∷
     (drop 14 (previewed 2 22 .board .part Index), 0 ∷ 0 ∷ 0 ∷ 0 ∷ 0 ∷ 0 ∷ 0 ∷ 9 ∷ []) ∷
-    (numbers (previewed 3 22), 7 ∷ 0 ∷ 9 ∷ 9 ∷ 9 ∷ []) ∷
-    (previewed 3 22 .board .part Stamps, replicate 13 9) ∷
+    (numbers (previewed 7 22), 7 ∷ 0 ∷ 9 ∷ 9 ∷ 9 ∷ []) ∷
+    (previewed 7 22 .board .part Stamps, replicate 13 9) ∷
     (numbers (previewed 2 20), 3 ∷ 0 ∷ 9 ∷ 9 ∷ 9 ∷ []) ∷
-    (numbers (previewed 3 20), 3 ∷ 0 ∷ 9 ∷ 9 ∷ 9 ∷ []) ∷
+    (numbers (previewed 7 20), 3 ∷ 0 ∷ 9 ∷ 9 ∷ 9 ∷ []) ∷
     []
 
 -- a message for the pair (0,0)
@@ -170,14 +179,15 @@ told b (m ∷ ms) = board-message b m .answer .code ∷ told (board-message b m 
 abbrev stored-300 : Board
 stored-300 =
     let b = built-at 5 in
-    lent (b .head) (b .part Operators) (b .part Rides) (b .part Stamps) (replicate 12 300) (b .part Index)
+    lent (b .head) (b .part Operators) (b .part Rides) (b .part Stamps) (replicate 12 300) (b .part Index) (b .part PresenceStamps)
+    (b .part PresenceRevisions) (b .part Presence)
 
 -- revisions, by hand, on the board built at stamp 5. It has 7 pairs, (0,0) among them, whose last is a grant of stamp 5 and revision 0.
 -- A build writes 0. Two corrections of stamp 6, a withdrawal of revision 1 and a grant of revision 2, in both orders: the grant stays.
 -- A grant and a withdrawal of stamp 6 and revision 1: the withdrawal is taken after the grant, and the grant is not taken after it.
 -- Revision 255 is taken, 256 gets 14. At the build's own stamp a grant of revision 0 gets 10, a withdrawal is taken, and so is a grant of
 -- revision 1. The stamp decides first: revision 0 of stamp 6 after revision 255 of stamp 5, and revision 255 of stamp 4 gets 10.
--- Revision 256 with kind 3 gets 7, with operator 4 gets 8, with stamp 0 gets 9, and with stamp 4, where 10 applies too, 14.
+-- Revision 256 with kind 7 gets 7, with operator 4 gets 8, with stamp 0 gets 9, and with stamp 4, where 10 applies too, 14.
 -- Where 300 is stored, revision 255 of stamp 5 gets 10, and revision 0 of stamp 6 is taken.
 unfoldable pub revision-samples : List (List ℕ × List ℕ)
 revision-samples =
@@ -191,7 +201,7 @@ revision-samples =
     (told (built-at 5) (for-0-0 1 1 5 ∷ []), 0 ∷ 5 ∷ 1 ∷ 7 ∷ []) ∷
     (told (built-at 5) (for-0-0 1 255 5 ∷ for-0-0 2 0 6 ∷ []), 0 ∷ 0 ∷ 6 ∷ 0 ∷ 6 ∷ []) ∷
     (told (built-at 5) (for-0-0 1 255 4 ∷ []), 10 ∷ 5 ∷ 0 ∷ 7 ∷ []) ∷
-    (told (built-at 5) (for-0-0 3 256 6 ∷ []), 7 ∷ 5 ∷ 0 ∷ 7 ∷ []) ∷ (
+    (told (built-at 5) (for-0-0 7 256 6 ∷ []), 7 ∷ 5 ∷ 0 ∷ 7 ∷ []) ∷ (
       told (built-at 5) (record { kind = 1; operator = 4; ride = 0; revision = 256; stamp = 6 } ∷ []),
       8 ∷ 5 ∷ 0 ∷ 7 ∷ [],
     ) ∷

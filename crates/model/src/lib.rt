@@ -8,7 +8,8 @@ pub struct Head {
     pub pairs: u16,
 }
 
-// Message: kind 1 is a grant, 2 a withdrawal; a revision from 0 to 255 orders corrections within one stamp.
+// Message: kind 1 is a grant, 2 a withdrawal, 3 operator on, 4 operator off, 5 ride in, 6 ride out; a revision from 0 to 255 orders corrections
+// within one stamp.
 #[repr(C)]
 pub struct Message {
     pub kind: u16,

@@ -1,9 +1,9 @@
 // The peel of a pair table: its tables and its limits are filled, and marks are cleared.
 ghost use Prim.Native.Nat.{ℕ, _<_, _≤_};
 ghost use lib.ListN.{length, getD};
-ghost use Rattle.model.specs.Graph.{Graph, limits as cover-limits};
-ghost use Rattle.model.specs.Layout.{graph, mark-places};
-ghost use Rattle.model.specs.Calls.{peeled};
+ghost use Rattle.model.specs.Graph.{Graph};
+ghost use Rattle.model.specs.Layout.{counting-graph, mark-places};
+ghost use Rattle.model.specs.Calls.{peeled, peel-limits};
 ghost use Rattle.pairs.specs.Accepted.{AcceptedPairs};
 ghost use Rattle.tables.specs.Table.{ZeroTables};
 ghost use Rattle.limits.specs.Limits.{limit-of};
@@ -43,11 +43,12 @@ fn peel_tables(
     }
 }
 
-// Peels under the limits (alpha, beta), over tables of zeros and room for the limits.
+// Peels under the limits (alpha, beta) those pairs that count, over tables of zeros and room for the limits.
 pub fn peel_over(
     head: Head,
     operators: &[u16],
     rides: &[u16],
+    presence: &[u16],
     by_operator: &mut [u8],
     by_ride: &mut [u8],
     limits: &mut [u16],
@@ -58,6 +59,7 @@ pub fn peel_over(
 ) -> Peeled
     requires { ⌜
         AcceptedPairs head (now operators) (now rides) ×
+        (mark-places head ≤ length (now presence)) ×
         ZeroTables (now «by_operator») (now «by_ride») ×
         (mark-places head ≤ length (now limits)) ×
         (mark-places head ≤ length (now marks))
@@ -65,12 +67,12 @@ pub fn peel_over(
     requires { ⌜ ((x : ℕ) → x < mark-places head → getD (now marks) x 0 ≤ 1) ⌝ }
     ensures { λ r. ⌜
         Gives
-        (peeled (graph head (now (operators .entry)) (now (rides .entry)))
-        (cover-limits (head .operators) alpha beta) steps (now (marks .entry)))
+        (peeled (counting-graph head (now (operators .entry)) (now (rides .entry)) (now (presence .entry)))
+        (peel-limits head (now (presence .entry)) alpha beta) steps (now (marks .entry)))
         r (now (marks .exit))
         ⌝ }
 {
-    tables::fill(head, operators, rides, by_operator, by_ride);
-    limits::fill(head, alpha, beta, limits);
+    tables::fill(head, operators, rides, presence, by_operator, by_ride);
+    limits::fill(head, presence, alpha, beta, limits);
     peel_tables(head, by_operator, by_ride, limits, marks, steps)
 }

@@ -8,13 +8,13 @@ ghost use Rattle.model.specs.Refusal.{refused-3, refused-12, peel-refusal};
 use model::Head;
 use refusals::table_number;
 
-// Whether a pair array is shorter than operators × rides, or the marks than operators + rides.
-fn short_peel(head: Head, operators: &[u16], rides: &[u16], marks: &[u16]) -> bool
+// Whether a pair array is shorter than operators × rides, or the presence words or the marks than operators + rides.
+fn short_peel(head: Head, operators: &[u16], rides: &[u16], presence: &[u16], marks: &[u16]) -> bool
     ensures { λ r. ⌜
         r
         ≡
         (refused-3 (pair-places head) (now (operators .entry)) || refused-3 (pair-places head) (now (rides .entry)) || refused-3 (mark-places head)
-        (now (marks .entry)))
+        (now (presence .entry)) || refused-3 (mark-places head) (now (marks .entry)))
         ⌝ }
 {
     let n = head.operators as usize;
@@ -24,6 +24,9 @@ fn short_peel(head: Head, operators: &[u16], rides: &[u16], marks: &[u16]) -> bo
         return true;
     }
     if rides.len() < places {
+        return true;
+    }
+    if presence.len() < n + m {
         return true;
     }
     marks.len() < n + m
@@ -46,10 +49,16 @@ fn bad_marks(head: Head, marks: &[u16]) -> bool
 }
 
 // 1 to 5 and 12.
-pub fn peel_number(head: Head, operators: &[u16], rides: &[u16], marks: &[u16]) -> u16
-    ensures { λ r. ⌜ r ≡ peel-refusal head (now (operators .entry)) (now (rides .entry)) (now (marks .entry)) ⌝ }
+pub fn peel_number(
+    head: Head,
+    operators: &[u16],
+    rides: &[u16],
+    presence: &[u16],
+    marks: &[u16],
+) -> u16
+    ensures { λ r. ⌜ r ≡ peel-refusal head (now (operators .entry)) (now (rides .entry)) (now (presence .entry)) (now (marks .entry)) ⌝ }
 {
-    let short = short_peel(head, operators, rides, marks);
+    let short = short_peel(head, operators, rides, presence, marks);
     let number = table_number(head, short, operators, rides);
     if number != 0 {
         return number;

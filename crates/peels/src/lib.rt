@@ -10,14 +10,18 @@ pub fn peel(
     head: Head,
     operators: &[u16],
     rides: &[u16],
+    presence: &[u16],
     marks: &mut [u16],
     alpha: u16,
     beta: u16,
     steps: u16,
 ) -> Peeled
-    ensures { λ r. ⌜ peel-left r (now (marks .exit)) ≡ board-peel head (now (operators .entry)) (now (rides .entry)) (now (marks .entry)) alpha beta steps ⌝ }
+    ensures { λ r. ⌜
+        peel-left r (now (marks .exit))
+        ≡ board-peel head (now (operators .entry)) (now (rides .entry)) (now (presence .entry)) (now (marks .entry)) alpha beta steps
+        ⌝ }
 {
-    let number = peel_refusals::peel_number(head, operators, rides, marks);
+    let number = peel_refusals::peel_number(head, operators, rides, presence, marks);
     if number != 0 {
         return Peeled {
             code: number,
@@ -32,6 +36,7 @@ pub fn peel(
         head,
         operators,
         rides,
+        presence,
         &mut by_operator,
         &mut by_ride,
         &mut limits,

@@ -5,11 +5,18 @@ ghost use Rattle.model.specs.Outcome.{queried};
 use model::Counts;
 use model::Head;
 
-// Marks who is in cover (alpha, beta) by the index, and answers the counts of operators and rides marked. Without such a row the levels are 0.
-pub fn query(head: Head, index: &[u16], alpha: u16, beta: u16, marks: &mut [u16]) -> Counts
-    ensures { λ r. ⌜ queried r (now (marks .exit)) ≡ board-query head (now (index .entry)) alpha beta (now (marks .entry)) ⌝ }
+// Marks who is present and in cover (alpha, beta) by the index, and answers the counts of operators and rides marked. Without such a row the levels are 0.
+pub fn query(
+    head: Head,
+    index: &[u16],
+    presence: &[u16],
+    alpha: u16,
+    beta: u16,
+    marks: &mut [u16],
+) -> Counts
+    ensures { λ r. ⌜ queried r (now (marks .exit)) ≡ board-query head (now (index .entry)) (now (presence .entry)) alpha beta (now (marks .entry)) ⌝ }
 {
-    let number = refusals::query_number(head, index, marks);
+    let number = refusals::query_number(head, index, presence, marks);
     if number != 0 {
         return Counts {
             code: number,
@@ -26,11 +33,19 @@ pub fn query(head: Head, index: &[u16], alpha: u16, beta: u16, marks: &mut [u16]
         return marks::mark_zeros(
             head.operators,
             head.rides,
+            presence,
             operator_least,
             ride_least,
             marks,
         );
     }
     let at = (row as usize - 1) * w;
-    marks::mark_row(&index[at..at + w], n, operator_least, ride_least, marks)
+    marks::mark_row(
+        &index[at..at + w],
+        n,
+        presence,
+        operator_least,
+        ride_least,
+        marks,
+    )
 }

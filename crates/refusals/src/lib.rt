@@ -8,7 +8,8 @@ ghost use Rattle.model.specs.Layout.{lent, pair-places};
 ghost use Rattle.model.specs.Refusal.{board-short, first-number, table-cases, build-refusal, query-refusal};
 use model::Head;
 
-// Whether a pair array, the stamps or the revisions are shorter than operators × rides, or the index than its rows.
+// Whether a pair array, the stamps or the revisions are shorter than operators × rides, the index than its rows, or one of the parts of operators
+// and rides than operators + rides.
 pub fn short_board(
     head: Head,
     operators: &[u16],
@@ -16,10 +17,14 @@ pub fn short_board(
     stamps: &[u32],
     revisions: &[u16],
     index: &[u16],
+    presence_stamps: &[u32],
+    presence_revisions: &[u16],
+    presence: &[u16],
 ) -> bool
     ensures { λ r. ⌜
         r
-        ≡ board-short (lent head (now (operators .entry)) (now (rides .entry)) (now (stamps .entry)) (now (revisions .entry)) (now (index .entry)))
+        ≡ board-short (lent head (now (operators .entry)) (now (rides .entry)) (now (stamps .entry)) (now (revisions .entry)) (now (index .entry))
+        (now («presence_stamps» .entry)) (now («presence_revisions» .entry)) (now (presence .entry)))
         ⌝ }
 {
     let n = head.operators as usize;
@@ -40,7 +45,13 @@ pub fn short_board(
     if index.len() < m * (n + m) {
         return true;
     }
-    false
+    if presence_stamps.len() < n + m {
+        return true;
+    }
+    if presence_revisions.len() < n + m {
+        return true;
+    }
+    presence.len() < n + m
 }
 
 // 1 to 5 of a pair table; short tells whether a lent part is too short.
@@ -75,13 +86,27 @@ pub fn build_number(
     stamps: &[u32],
     revisions: &[u16],
     index: &[u16],
+    presence_stamps: &[u32],
+    presence_revisions: &[u16],
+    presence: &[u16],
 ) -> u16
     ensures { λ r. ⌜
         r
-        ≡ build-refusal (lent head (now (operators .entry)) (now (rides .entry)) (now (stamps .entry)) (now (revisions .entry)) (now (index .entry))) start
+        ≡ build-refusal (lent head (now (operators .entry)) (now (rides .entry)) (now (stamps .entry)) (now (revisions .entry)) (now (index .entry))
+        (now («presence_stamps» .entry)) (now («presence_revisions» .entry)) (now (presence .entry))) start
         ⌝ }
 {
-    let short = short_board(head, operators, rides, stamps, revisions, index);
+    let short = short_board(
+        head,
+        operators,
+        rides,
+        stamps,
+        revisions,
+        index,
+        presence_stamps,
+        presence_revisions,
+        presence,
+    );
     let number = table_number(head, short, operators, rides);
     if number != 0 {
         return number;
@@ -103,15 +128,15 @@ fn first(applies: bool, number: u16, after: u16) -> u16
 }
 
 // 1 to 3. All are tested, without a branch between them (docs/DECISIONS.md).
-pub fn query_number(head: Head, index: &[u16], marks: &[u16]) -> u16
-    ensures { λ r. ⌜ r ≡ query-refusal head (now (index .entry)) (now (marks .entry)) ⌝ }
+pub fn query_number(head: Head, index: &[u16], presence: &[u16], marks: &[u16]) -> u16
+    ensures { λ r. ⌜ r ≡ query-refusal head (now (index .entry)) (now (presence .entry)) (now (marks .entry)) ⌝ }
 {
     let n = head.operators as usize;
     let m = head.rides as usize;
     let short = first(
         index.len() < m * (n + m),
         3,
-        first(marks.len() < n + m, 3, 0),
+        first(presence.len() < n + m, 3, first(marks.len() < n + m, 3, 0)),
     );
     first(200 < head.operators, 1, first(60 < head.rides, 2, short))
 }

@@ -10,6 +10,9 @@ fn call(
     stamps: &mut [u32; 12300],
     revisions: &mut [u16; 12300],
     index: &mut [u16; 16000],
+    presence_stamps: &mut [u32; 270],
+    presence_revisions: &mut [u16; 270],
+    presence: &mut [u16; 270],
     marks: &mut [u16; 270],
     answers: &mut [u16; 70],
 ) -> u64 {
@@ -22,6 +25,9 @@ fn call(
             stamps,
             revisions,
             index,
+            presence_stamps,
+            presence_revisions,
+            presence,
             marks,
         );
         0
@@ -34,6 +40,9 @@ fn call(
             stamps,
             revisions,
             index,
+            presence_stamps,
+            presence_revisions,
+            presence,
             answers,
         )
     }
@@ -47,6 +56,9 @@ fn step(
     stamps: &mut [u32; 12300],
     revisions: &mut [u16; 12300],
     index: &mut [u16; 16000],
+    presence_stamps: &mut [u32; 270],
+    presence_revisions: &mut [u16; 270],
+    presence: &mut [u16; 270],
     marks: &mut [u16; 270],
     answers: &mut [u16; 70],
 ) {
@@ -57,6 +69,9 @@ fn step(
         stamps,
         revisions,
         index,
+        presence_stamps,
+        presence_revisions,
+        presence,
         marks,
         answers,
     );
@@ -68,6 +83,9 @@ fn step(
         stamps,
         revisions,
         index,
+        presence_stamps,
+        presence_revisions,
+        presence,
         marks,
         answers,
     );
@@ -79,6 +97,9 @@ fn step(
         stamps,
         revisions,
         index,
+        presence_stamps,
+        presence_revisions,
+        presence,
         marks,
         answers,
     ));
@@ -92,6 +113,9 @@ pub fn run() {
     let mut stamps = [0u32; 12300];
     let mut revisions = [0u16; 12300];
     let mut index = [0u16; 16000];
+    let mut presence_stamps = [0u32; 270];
+    let mut presence_revisions = [0u16; 270];
+    let mut presence = [0u16; 270];
     let mut marks = [0u16; 270];
     let mut answers = [0u16; 70];
     for _ in 0..1000000u32 {
@@ -106,6 +130,9 @@ pub fn run() {
             &mut stamps,
             &mut revisions,
             &mut index,
+            &mut presence_stamps,
+            &mut presence_revisions,
+            &mut presence,
             &mut marks,
             &mut answers,
         );

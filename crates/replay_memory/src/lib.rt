@@ -12,6 +12,9 @@ pub struct Lent {
     pub stamps: usize,
     pub revisions: usize,
     pub index: usize,
+    pub presence_stamps: usize,
+    pub presence_revisions: usize,
+    pub presence: usize,
     pub marks: usize,
     pub answers: usize,
 }
@@ -25,6 +28,9 @@ pub fn checksum(
     stamps: &[u32; 12300],
     revisions: &[u16; 12300],
     index: &[u16; 16000],
+    presence_stamps: &[u32; 270],
+    presence_revisions: &[u16; 270],
+    presence: &[u16; 270],
     marks: &[u16; 270],
     answers: &[u16; 70],
 ) -> u64 {
@@ -33,7 +39,10 @@ pub fn checksum(
     let s = lent_parts::checksum_longs(r, lent.stamps, stamps);
     let v = lent_parts::checksum(s, lent.revisions, revisions);
     let i = lent_parts::checksum(v, lent.index, index);
-    let m = lent_parts::checksum(i, lent.marks, marks);
+    let t = lent_parts::checksum_longs(i, lent.presence_stamps, presence_stamps);
+    let c = lent_parts::checksum(t, lent.presence_revisions, presence_revisions);
+    let p = lent_parts::checksum(c, lent.presence, presence);
+    let m = lent_parts::checksum(p, lent.marks, marks);
     lent_parts::checksum(m, lent.answers, answers)
 }
 
@@ -48,7 +57,8 @@ fn parts_at(frame: &[u8]) -> usize {
     }
 }
 
-// Sets the memory as the parts of a frame say. A query has no pairs, a peel no index, and neither has stamps or revisions; they alone have marks.
+// Sets the memory as the parts of a frame say. A query has no pairs, a peel no index, and neither has stamps or revisions, of pairs or of nodes;
+// they alone have marks.
 pub fn load(
     frame: &[u8],
     operators: &mut [u16; 12300],
@@ -56,6 +66,9 @@ pub fn load(
     stamps: &mut [u32; 12300],
     revisions: &mut [u16; 12300],
     index: &mut [u16; 16000],
+    presence_stamps: &mut [u32; 270],
+    presence_revisions: &mut [u16; 270],
+    presence: &mut [u16; 270],
     marks: &mut [u16; 270],
     answers: &mut [u16; 70],
 ) -> Lent {
@@ -66,7 +79,10 @@ pub fn load(
     let s = lent_parts::load_longs(frame, r.next, !marked, stamps);
     let v = lent_parts::load(frame, s.next, !marked, revisions);
     let i = lent_parts::load(frame, v.next, kind != 3, index);
-    let m = lent_parts::load(frame, i.next, marked, marks);
+    let t = lent_parts::load_longs(frame, i.next, !marked, presence_stamps);
+    let c = lent_parts::load(frame, t.next, !marked, presence_revisions);
+    let p = lent_parts::load(frame, c.next, true, presence);
+    let m = lent_parts::load(frame, p.next, marked, marks);
     let a = lent_parts::load(frame, m.next, kind == 5, answers);
     Lent {
         operators: o.places,
@@ -74,6 +90,9 @@ pub fn load(
         stamps: s.places,
         revisions: v.places,
         index: i.places,
+        presence_stamps: t.places,
+        presence_revisions: c.places,
+        presence: p.places,
         marks: m.places,
         answers: a.places,
     }

@@ -12,6 +12,9 @@ fn deliver_at(
     stamps: &mut [u32],
     revisions: &mut [u16],
     index: &mut [u16],
+    presence_stamps: &mut [u32],
+    presence_revisions: &mut [u16],
+    presence: &mut [u16],
 ) -> Delivered {
     let now = frames::head_now(frame, pairs);
     messages::deliver(
@@ -22,6 +25,9 @@ fn deliver_at(
         stamps,
         revisions,
         index,
+        presence_stamps,
+        presence_revisions,
+        presence,
     )
 }
 
@@ -33,6 +39,9 @@ fn message(
     stamps: &mut [u32],
     revisions: &mut [u16],
     index: &mut [u16],
+    presence_stamps: &mut [u32],
+    presence_revisions: &mut [u16],
+    presence: &mut [u16],
 ) -> u64 {
     let delivered = deliver_at(
         frame,
@@ -43,6 +52,9 @@ fn message(
         lent_parts::first_longs(stamps, lent.stamps),
         lent_parts::first(revisions, lent.revisions),
         lent_parts::first(index, lent.index),
+        lent_parts::first_longs(presence_stamps, lent.presence_stamps),
+        lent_parts::first(presence_revisions, lent.presence_revisions),
+        lent_parts::first(presence, lent.presence),
     );
     frames::print(delivered.code);
     frames::print(delivered.differ);
@@ -58,12 +70,27 @@ fn deliver_all(
     stamps: &mut [u32],
     revisions: &mut [u16],
     index: &mut [u16],
+    presence_stamps: &mut [u32],
+    presence_revisions: &mut [u16],
+    presence: &mut [u16],
     answers: &mut [u16],
 ) -> u16 {
     let mut pairs = frames::word(frame, 3);
     let mut at = 5;
     for i in 0..count {
-        let delivered = deliver_at(frame, at, pairs, operators, rides, stamps, revisions, index);
+        let delivered = deliver_at(
+            frame,
+            at,
+            pairs,
+            operators,
+            rides,
+            stamps,
+            revisions,
+            index,
+            presence_stamps,
+            presence_revisions,
+            presence,
+        );
         lent_parts::store(answers, i, delivered.code);
         pairs = delivered.pairs;
         at = frames::past(at, 6);
@@ -79,6 +106,9 @@ fn deliver_list(
     stamps: &mut [u32],
     revisions: &mut [u16],
     index: &mut [u16],
+    presence_stamps: &mut [u32],
+    presence_revisions: &mut [u16],
+    presence: &mut [u16],
     answers: &mut [u16],
 ) -> u16 {
     let count = frames::word(frame, 4) as usize;
@@ -90,6 +120,9 @@ fn deliver_list(
         stamps,
         revisions,
         index,
+        presence_stamps,
+        presence_revisions,
+        presence,
         answers,
     );
     frames::print(code);
@@ -101,6 +134,9 @@ fn deliver_list(
         stamps,
         revisions,
         index,
+        presence_stamps,
+        presence_revisions,
+        presence,
         answers,
     )
 }
@@ -113,6 +149,9 @@ fn list(
     stamps: &mut [u32],
     revisions: &mut [u16],
     index: &mut [u16],
+    presence_stamps: &mut [u32],
+    presence_revisions: &mut [u16],
+    presence: &mut [u16],
     answers: &mut [u16],
 ) -> u64 {
     let pairs = deliver_list(
@@ -122,6 +161,9 @@ fn list(
         lent_parts::first_longs(stamps, lent.stamps),
         lent_parts::first(revisions, lent.revisions),
         lent_parts::first(index, lent.index),
+        lent_parts::first_longs(presence_stamps, lent.presence_stamps),
+        lent_parts::first(presence_revisions, lent.presence_revisions),
+        lent_parts::first(presence, lent.presence),
         lent_parts::first(answers, lent.answers),
     );
     replay_memory::head_checksum(frame, pairs)
@@ -136,10 +178,24 @@ pub fn call(
     stamps: &mut [u32; 12300],
     revisions: &mut [u16; 12300],
     index: &mut [u16; 16000],
+    presence_stamps: &mut [u32; 270],
+    presence_revisions: &mut [u16; 270],
+    presence: &mut [u16; 270],
     answers: &mut [u16; 70],
 ) -> u64 {
     if frames::word(frame, 0) == 4 {
-        message(frame, lent, operators, rides, stamps, revisions, index)
+        message(
+            frame,
+            lent,
+            operators,
+            rides,
+            stamps,
+            revisions,
+            index,
+            presence_stamps,
+            presence_revisions,
+            presence,
+        )
     } else {
         list(
             frame,
@@ -149,6 +205,9 @@ pub fn call(
             stamps,
             revisions,
             index,
+            presence_stamps,
+            presence_revisions,
+            presence,
             answers,
         )
     }

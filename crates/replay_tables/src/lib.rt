@@ -10,6 +10,9 @@ fn build(
     stamps: &mut [u32],
     revisions: &mut [u16],
     index: &mut [u16],
+    presence_stamps: &mut [u32],
+    presence_revisions: &mut [u16],
+    presence: &mut [u16],
 ) {
     let start = frames::long(frame, 4);
     let code = builds::build(
@@ -20,32 +23,52 @@ fn build(
         lent_parts::first_longs(stamps, lent.stamps),
         lent_parts::first(revisions, lent.revisions),
         lent_parts::first(index, lent.index),
+        lent_parts::first_longs(presence_stamps, lent.presence_stamps),
+        lent_parts::first(presence_revisions, lent.presence_revisions),
+        lent_parts::first(presence, lent.presence),
     );
     frames::print(code);
 }
 
-fn query(frame: &[u8], lent: Lent, index: &[u16], marks: &mut [u16]) {
+fn query(frame: &[u8], lent: Lent, index: &[u16], presence: &[u16], marks: &mut [u16]) {
     let alpha = frames::word(frame, 4);
     let beta = frames::word(frame, 5);
     let i = frames::least(lent.index, index.len());
+    let p = frames::least(lent.presence, presence.len());
     let m = frames::least(lent.marks, marks.len());
-    let counts = queries::query(head(frame), &index[0..i], alpha, beta, &mut marks[0..m]);
+    let counts = queries::query(
+        head(frame),
+        &index[0..i],
+        &presence[0..p],
+        alpha,
+        beta,
+        &mut marks[0..m],
+    );
     frames::print(counts.code);
     frames::print(counts.operators);
     frames::print(counts.rides);
 }
 
-fn peel(frame: &[u8], lent: Lent, operators: &[u16], rides: &[u16], marks: &mut [u16]) {
+fn peel(
+    frame: &[u8],
+    lent: Lent,
+    operators: &[u16],
+    rides: &[u16],
+    presence: &[u16],
+    marks: &mut [u16],
+) {
     let alpha = frames::word(frame, 4);
     let beta = frames::word(frame, 5);
     let steps = frames::word(frame, 6);
     let o = frames::least(lent.operators, operators.len());
     let r = frames::least(lent.rides, rides.len());
+    let p = frames::least(lent.presence, presence.len());
     let m = frames::least(lent.marks, marks.len());
     let peeled = peels::peel(
         head(frame),
         &operators[0..o],
         &rides[0..r],
+        &presence[0..p],
         &mut marks[0..m],
         alpha,
         beta,
@@ -65,11 +88,25 @@ pub fn call(
     stamps: &mut [u32; 12300],
     revisions: &mut [u16; 12300],
     index: &mut [u16; 16000],
+    presence_stamps: &mut [u32; 270],
+    presence_revisions: &mut [u16; 270],
+    presence: &mut [u16; 270],
     marks: &mut [u16; 270],
 ) {
     match frames::word(frame, 0) {
-        1 => build(frame, lent, operators, rides, stamps, revisions, index),
-        2 => query(frame, lent, index, marks),
-        _ => peel(frame, lent, operators, rides, marks),
+        1 => build(
+            frame,
+            lent,
+            operators,
+            rides,
+            stamps,
+            revisions,
+            index,
+            presence_stamps,
+            presence_revisions,
+            presence,
+        ),
+        2 => query(frame, lent, index, presence, marks),
+        _ => peel(frame, lent, operators, rides, presence, marks),
     }
 }

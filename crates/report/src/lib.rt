@@ -10,7 +10,7 @@ ghost use Rattle.text.specs.Write.{Wrote};
 ghost use Rattle.report.specs.Sizes.{Sizes, table-text, input-text};
 use model::Head;
 
-// The levels in row α, over a row of zeros. For α above rides they are 0.
+// The levels in row α with everybody on and in, over a row of zeros. For α above rides they are 0.
 fn fill_levels(h: Head, operators: &[u16], rides: &[u16], alpha: u16, row: &mut [u16])
     requires { ⌜ AcceptedPairs h (now operators) (now rides) × (1 ≤ alpha) × (length (now row) ≡ mark-places h) ⌝ }
     requires { ⌜ ((k : ℕ) → getD (now row) k 0 ≡ 0) ⌝ }
@@ -19,9 +19,17 @@ fn fill_levels(h: Head, operators: &[u16], rides: &[u16], alpha: u16, row: &mut 
     if alpha <= h.rides {
         let n = h.operators as usize;
         let m = h.rides as usize;
+        let everybody = [1u16; 260];
         let mut by_operator = [0u8; 12000];
         let mut by_ride = [0u8; 12000];
-        let degrees = degrees::tabulate(h, operators, rides, &mut by_operator, &mut by_ride);
+        let degrees = degrees::tabulate(
+            h,
+            operators,
+            rides,
+            &everybody,
+            &mut by_operator,
+            &mut by_ride,
+        );
         row::fill_row(&by_operator, &by_ride, degrees, n, m, alpha as u8, row);
     }
 }

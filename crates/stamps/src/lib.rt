@@ -1,11 +1,12 @@
-// The stamps and revisions: a pair's place among them, the stamps of a build, whether a listed pair has none, whether a message is later than its
-// pair's last, and the store of a taken message.
+// The stamps and revisions of pairs: a pair's place among them, the stamps of a build, whether a listed pair has none, the store of a taken message;
+// and whether a message is later than the last of its pair, operator or ride.
 ghost use mathlib.Core.Path.{_≡_};
 ghost use mathlib.Core.List.{List};
 ghost use Prim.Native.Nat.{ℕ, _*_, _<_, _≤_};
 ghost use lib.ListN.{length, getD, set};
 ghost use Rattle.model.specs.Layout.{lent, pair-places, over, listed, graph};
-ghost use Rattle.model.specs.Contents.{pair-place};
+ghost use Rattle.model.specs.Count.{bit};
+ghost use Rattle.model.specs.Contents.{giving, later, entry, pair-place};
 ghost use Rattle.model.specs.Refusal.{refused-6, refused-10};
 ghost use Rattle.pairs.specs.Accepted.{AcceptedPairs};
 ghost use Rattle.stamps.specs.Stamps.{Stamped, start-stamps, exceeds};
@@ -51,7 +52,8 @@ pub fn fill(head: Head, operators: &[u16], rides: &[u16], start: u32, stamps: &m
 pub fn missing(head: Head, operators: &[u16], rides: &[u16], stamps: &[u32]) -> bool
     requires { ⌜ AcceptedPairs head (now operators) (now rides) × (pair-places head ≤ length (now stamps)) ⌝ }
     ensures { λ r. ⌜
-        ((revisions index : List ℕ) → r ≡ refused-6 (lent head (now (operators .entry)) (now (rides .entry)) (now (stamps .entry)) revisions index))
+        ((revisions index stamps′ revisions′ presence : List ℕ) →
+        r ≡ refused-6 (lent head (now (operators .entry)) (now (rides .entry)) (now (stamps .entry)) revisions index stamps′ revisions′ presence))
         ⌝ }
 {
     let pairs = head.pairs as usize;
@@ -76,7 +78,30 @@ fn exceeds(stamp: u32, revision: u16, other: u32, other_revision: u16) -> bool
     other < stamp
 }
 
-// Whether a message in range is not later than its pair's last: at equal stamps and revisions only a withdrawal of a listed pair is.
+// Whether a kind gives: 1 grant, 3 operator on, 5 ride in.
+pub fn gives(kind: u16) -> bool
+    ensures { λ r. ⌜ r ≡ giving kind ⌝ }
+{
+    kind == 1 || kind == 3 || kind == 5
+}
+
+// Whether a message is later than the last of its slot, of this stamp and revision, which gives or takes away.
+pub fn is_later(message: Message, stamp: u32, revision: u16, given: bool) -> bool
+    ensures { λ r. ⌜ r ≡ later (entry message) (record { stamp = stamp; revision = revision; word = bit given }) ⌝ }
+{
+    if exceeds(message.stamp, message.revision, stamp, revision) {
+        return true;
+    }
+    if exceeds(stamp, revision, message.stamp, message.revision) {
+        return false;
+    }
+    if gives(message.kind) {
+        return false;
+    }
+    given
+}
+
+// Whether a message for a pair in range is not later than the pair's last.
 pub fn not_later(
     head: Head,
     message: Message,
@@ -87,29 +112,19 @@ pub fn not_later(
 ) -> bool
     requires { ⌜
         AcceptedPairs head (now operators) (now rides) × (pair-places head ≤ length (now stamps)) × (pair-places head ≤ length (now revisions)) ×
-        (message .operator < head .operators) × (message .ride < head .rides)
+        (message .operator < head .operators) × (message .ride < head .rides) × (message .kind ≤ 2)
         ⌝ }
     ensures { λ r. ⌜
-        ((index : List ℕ) → r ≡ refused-10
-        (lent head (now (operators .entry)) (now (rides .entry)) (now (stamps .entry)) (now (revisions .entry)) index) message)
+        ((index stamps′ revisions′ presence : List ℕ) → r ≡ refused-10
+        (lent head (now (operators .entry)) (now (rides .entry)) (now (stamps .entry)) (now (revisions .entry)) index stamps′ revisions′ presence) message)
         ⌝ }
 {
     let at = place(head, message.operator, message.ride);
-    let stamp = stamps[at];
-    let revision = revisions[at];
-    if exceeds(message.stamp, message.revision, stamp, revision) {
-        return false;
-    }
-    if exceeds(stamp, revision, message.stamp, message.revision) {
-        return true;
-    }
-    if message.kind == 1 {
-        return true;
-    }
-    !pairs::is_listed(head, message.operator, message.ride, operators, rides)
+    let listed = pairs::is_listed(head, message.operator, message.ride, operators, rides);
+    !is_later(message, stamps[at], revisions[at], listed)
 }
 
-// Stores the stamp and the revision of a taken message.
+// Stores the stamp and the revision of a taken message for a pair.
 pub fn store(head: Head, message: Message, stamps: &mut [u32], revisions: &mut [u16])
     requires { ⌜
         (pair-place head (message .operator) (message .ride) < length (now stamps)) ×

@@ -2,32 +2,47 @@
 ghost use mathlib.Core.Path.{_≡_};
 ghost use Prim.Native.Nat.{ℕ, _+_, _-_, _<_, _≤_};
 ghost use lib.ListN.{length, getD};
-ghost use Rattle.model.specs.Layout.{graph};
+ghost use mathlib.Core.Bool.{_&&_};
+ghost use lib.Dec.{eqb};
+ghost use Rattle.model.specs.Count.{bit};
+ghost use Rattle.model.specs.Layout.{counting-graph, mark-places};
 ghost use Rattle.pairs.specs.Accepted.{AcceptedPairs};
 ghost use Rattle.tables.specs.Table.{Tables, ZeroTables};
 use model::Head;
 
-// Fills two tables of zeros with the clearances of a pair table, in one reading of the pairs.
+// 1 where the words of an operator and a ride are both 1: their pair counts.
+fn counts(operator: u16, ride: u16) -> u8
+    ensures { λ r. ⌜ r ≡ bit (eqb operator 1 && eqb ride 1) ⌝ }
+{
+    if operator == 1 && ride == 1 { 1 } else { 0 }
+}
+
+// Fills two tables of zeros with the pairs of a pair table that count, by the presence words, in one reading of the pairs.
 pub fn fill(
     head: Head,
     operators: &[u16],
     rides: &[u16],
+    presence: &[u16],
     by_operator: &mut [u8],
     by_ride: &mut [u8],
 )
-    requires { ⌜ AcceptedPairs head (now operators) (now rides) × ZeroTables (now «by_operator») (now «by_ride») ⌝ }
+    requires { ⌜
+        AcceptedPairs head (now operators) (now rides) × (mark-places head ≤ length (now presence)) × ZeroTables (now «by_operator») (now «by_ride»)
+        ⌝ }
     ensures { λ _. ⌜
-        Tables (graph head (now (operators .entry)) (now (rides .entry)))
+        Tables (counting-graph head (now (operators .entry)) (now (rides .entry)) (now (presence .entry)))
         (now («by_operator» .exit)) (now («by_ride» .exit))
         ⌝ }
 {
+    let n = head.operators as usize;
     let pairs = head.pairs as usize;
     let mut k = 0;
     while k < pairs {
         let u = operators[k] as usize;
         let v = rides[k] as usize;
-        by_operator[u * 60 + v] = 1;
-        by_ride[v * 200 + u] = 1;
+        let one = counts(presence[u], presence[n + v]);
+        by_operator[u * 60 + v] = one;
+        by_ride[v * 200 + u] = one;
         k += 1;
     }
 }
