@@ -102,7 +102,14 @@ pub fn enter_valid(
         (now («presence_stamps» .entry)) (now («presence_revisions» .entry)) (now (presence .entry))) message))
         ⌝ }
 {
-    let number = message_refusals::entry_number(
+    let number = message_refusals::valid_number(head, message);
+    if number != 0 {
+        return Numbered {
+            code: number,
+            pairs: head.pairs,
+        };
+    }
+    if message_refusals::not_later(
         head,
         message,
         operators,
@@ -112,10 +119,9 @@ pub fn enter_valid(
         presence_stamps,
         presence_revisions,
         presence,
-    );
-    if number != 0 {
+    ) {
         return Numbered {
-            code: number,
+            code: 10,
             pairs: head.pairs,
         };
     }

@@ -62,7 +62,7 @@ fn unused(message: Message) -> u16
 }
 
 // 7 to 9, 14 and 15 of a message: 0 if it is valid.
-fn valid_number(head: Head, message: Message) -> u16
+pub fn valid_number(head: Head, message: Message) -> u16
     ensures { λ r. ⌜ r ≡ first-number (valid-cases head message) ⌝ }
 {
     if message.kind == 0 {
@@ -86,8 +86,8 @@ fn valid_number(head: Head, message: Message) -> u16
     0
 }
 
-// Whether a valid message is not later than the last of its pair, operator or ride.
-fn not_later(
+// Whether 10 applies to a valid message, on a board to which 1 to 6 do not apply.
+pub fn not_later(
     head: Head,
     message: Message,
     operators: &[u16],
@@ -111,48 +111,13 @@ fn not_later(
     if message.kind <= 2 {
         return stamps::not_later(head, message, operators, rides, stamps, revisions);
     }
-    presence::not_later(head, message, presence_stamps, presence_revisions, presence)
-}
-
-// 7 to 9, 14, 15 and 10 of a message, on a board to which 1 to 6 do not apply.
-pub fn entry_number(
-    head: Head,
-    message: Message,
-    operators: &[u16],
-    rides: &[u16],
-    stamps: &[u32],
-    revisions: &[u16],
-    presence_stamps: &[u32],
-    presence_revisions: &[u16],
-    presence: &[u16],
-) -> u16
-    requires { ⌜
-        Ready head (now operators) (now rides) (now stamps) (now revisions) (now «presence_stamps») (now «presence_revisions») (now presence)
-        ⌝ }
-    ensures { λ r. ⌜
-        ((index : List ℕ) → r ≡ first-number
-        (message-cases (lent head (now (operators .entry)) (now (rides .entry)) (now (stamps .entry)) (now (revisions .entry)) index
-        (now («presence_stamps» .entry)) (now («presence_revisions» .entry)) (now (presence .entry))) message))
-        ⌝ }
-{
-    let number = valid_number(head, message);
-    if number != 0 {
-        return number;
-    }
-    if not_later(
+    presence::not_later(
         head,
         message,
-        operators,
-        rides,
-        stamps,
-        revisions,
         presence_stamps,
         presence_revisions,
         presence,
-    ) {
-        return 10;
-    }
-    0
+    )
 }
 
 // 1 to 9, 14, 15 and 10 of a message on a board whose own number, of 1 to 6, is known.
@@ -187,7 +152,11 @@ fn number_on(
     if number != 0 {
         return number;
     }
-    entry_number(
+    let valid = valid_number(head, message);
+    if valid != 0 {
+        return valid;
+    }
+    if not_later(
         head,
         message,
         operators,
@@ -197,7 +166,10 @@ fn number_on(
         presence_stamps,
         presence_revisions,
         presence,
-    )
+    ) {
+        return 10;
+    }
+    0
 }
 
 // 1 to 9, 14, 15 and 10 of a message.

@@ -101,7 +101,7 @@ pub fn is_later(message: Message, stamp: u32, revision: u16, given: bool) -> boo
     given
 }
 
-// Whether a message for a pair in range is not later than the pair's last.
+// Whether a message for a pair in range is not later than the pair's last. Only where it decides is the pair looked up.
 pub fn not_later(
     head: Head,
     message: Message,
@@ -120,8 +120,15 @@ pub fn not_later(
         ⌝ }
 {
     let at = place(head, message.operator, message.ride);
-    let listed = pairs::is_listed(head, message.operator, message.ride, operators, rides);
-    !is_later(message, stamps[at], revisions[at], listed)
+    let stamp = stamps[at];
+    let revision = revisions[at];
+    if !is_later(message, stamp, revision, true) {
+        return true;
+    }
+    if is_later(message, stamp, revision, false) {
+        return false;
+    }
+    !pairs::is_listed(head, message.operator, message.ride, operators, rides)
 }
 
 // Stores the stamp and the revision of a taken message for a pair.
