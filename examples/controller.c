@@ -1,16 +1,18 @@
 /*
  * A controller over the board: it takes the messages of a radio trace in the order in which they arrive, and prints for
  * each ride whether it gets its dispatch permit, before and after each message. A ride gets it while it is in cover
- * (alpha, beta). A withdrawal is previewed in spare memory before it is sent to the board: the permits that would be
- * given after it are printed. The controller stops where the message then does anything else.
+ * (alpha, beta). A withdrawal, an operator off or a ride out is previewed in spare memory before it is sent to the
+ * board: the permits that would be given after it are printed. The controller stops where the message then does anything
+ * else. After a message for an operator or a ride it prints which operators are on and which rides are in.
  *
  *     controller TRACE ALPHA BETA
  *
  * ALPHA may be 0, no limit. BETA is from 1: under no limit each ride would get a permit, also one without operators.
  *
- * A line of the trace is `KIND OPERATOR RIDE REVISION STAMP`, all numbers, kind 1 a grant and 2 a withdrawal; what
- * follows a # is a comment. At the end the same messages are given to a second board in the order of their stamps and
- * revisions, as one message list. Exit status 0 says that the two boards are the same, word for word.
+ * A line of the trace is `KIND OPERATOR RIDE REVISION STAMP`, all numbers, kind 1 a grant, 2 a withdrawal, 3 operator
+ * on, 4 operator off, 5 ride in, 6 ride out; what follows a # is a comment. At the end the same messages are given to a
+ * second board in the order of their stamps and revisions, as one message list. Exit status 0 says that the two boards
+ * are the same, word for word.
  */
 #include <stdio.h>
 #include <stdlib.h>
@@ -25,7 +27,7 @@
 
 /* Document 01's board, twice, and spare memory for previews. */
 #define PAIRS 7
-#define SAMPLE {{0, 0, 1, 1, 2, 2, 3}, {0, 1, 0, 1, 1, 2, 2}, {0}, {0}, {0}}
+#define SAMPLE {{0, 0, 1, 1, 2, 2, 3}, {0, 1, 0, 1, 1, 2, 2}, {0}, {0}, {0}, {0}, {0}, {0}}
 
 BOARD_STORAGE(arriving_memory, OPERATORS, RIDES) = SAMPLE;
 BOARD_STORAGE(in_order_memory, OPERATORS, RIDES) = SAMPLE;
@@ -55,7 +57,7 @@ static void print_permits(const char *when, const Board *board, uint16_t alpha, 
         peeled[i] = 1;
     check(board_peel_on(board, peeled, BOARD_LENGTH(peeled), alpha, beta, OPERATORS + RIDES).code);
     if (memcmp(marks, peeled, sizeof marks) != 0)
-        stop("the board is damaged: its index is not that of its pairs");
+        stop("the board is damaged: its index is not that of its pairs that count");
     printf("  %-8s", when);
     for (unsigned ride = 0; ride < RIDES; ride++) {
         int permit = marks[BOARD_RIDE_MARK(OPERATORS, ride)] == 1;
@@ -64,10 +66,50 @@ static void print_permits(const char *when, const Board *board, uint16_t alpha, 
     printf("\n");
 }
 
+/* Which operators are on and which rides are in: those whose presence word is 1. */
+static void print_presence(const Board *board) {
+    printf("  %-8s   operators on:", "presence");
+    for (unsigned i = 0; i < OPERATORS; i++)
+        if (board->presence[BOARD_OPERATOR_PRESENCE(i)] == BOARD_PRESENT)
+            printf(" %u", i);
+    printf("; rides in:");
+    for (unsigned i = 0; i < RIDES; i++)
+        if (board->presence[BOARD_RIDE_PRESENCE(OPERATORS, i)] == BOARD_PRESENT)
+            printf(" %u", i);
+    printf("\n");
+}
+
+static const char *kind_text(uint16_t kind) {
+    switch (kind) {
+    case BOARD_GRANT:
+        return "grant";
+    case BOARD_WITHDRAWAL:
+        return "withdrawal";
+    case BOARD_OPERATOR_ON:
+        return "operator on";
+    case BOARD_OPERATOR_OFF:
+        return "operator off";
+    case BOARD_RIDE_IN:
+        return "ride in";
+    case BOARD_RIDE_OUT:
+        return "ride out";
+    default:
+        return "unknown kind";
+    }
+}
+
+static int is_for_operator_or_ride(BoardMessage m) {
+    return BOARD_OPERATOR_ON <= m.kind && m.kind <= BOARD_RIDE_OUT;
+}
+
+/* A withdrawal, an operator off or a ride out. */
+static int takes_away(BoardMessage m) {
+    return m.kind == BOARD_WITHDRAWAL || m.kind == BOARD_OPERATOR_OFF || m.kind == BOARD_RIDE_OUT;
+}
+
 static void print_message(size_t number, BoardMessage m) {
-    const char *kind = m.kind == BOARD_GRANT ? "grant" : m.kind == BOARD_WITHDRAWAL ? "withdrawal" : "unknown kind";
-    printf("message %zu: %s, operator %u, ride %u, stamp %lu, revision %u\n", number, kind, m.operator_number, m.ride,
-           (unsigned long)m.stamp, m.revision);
+    printf("message %zu: %s, operator %u, ride %u, stamp %lu, revision %u\n", number, kind_text(m.kind),
+           m.operator_number, m.ride, (unsigned long)m.stamp, m.revision);
 }
 
 static void print_answer(const char *what, BoardAnswer answer) {
@@ -106,7 +148,7 @@ static size_t read_trace(const char *name) {
     return count;
 }
 
-/* The order of two messages: by stamp, then revision, then kind. Of one pair the later comes behind. */
+/* The order of two messages: by stamp, then revision, then kind. The later of one pair, operator or ride comes behind. */
 static int by_stamp(const void *left, const void *right) {
     const BoardMessage *a = left, *b = right;
     if (a->stamp != b->stamp)
@@ -123,7 +165,12 @@ static int same(const Board *a, const Board *b) {
            memcmp(a->rides, b->rides, a->rides_length * sizeof a->rides[0]) == 0 &&
            memcmp(a->stamps, b->stamps, a->stamps_length * sizeof a->stamps[0]) == 0 &&
            memcmp(a->revisions, b->revisions, a->revisions_length * sizeof a->revisions[0]) == 0 &&
-           memcmp(a->index, b->index, a->index_length * sizeof a->index[0]) == 0;
+           memcmp(a->index, b->index, a->index_length * sizeof a->index[0]) == 0 &&
+           memcmp(a->presence_stamps, b->presence_stamps,
+                  a->presence_stamps_length * sizeof a->presence_stamps[0]) == 0 &&
+           memcmp(a->presence_revisions, b->presence_revisions,
+                  a->presence_revisions_length * sizeof a->presence_revisions[0]) == 0 &&
+           memcmp(a->presence, b->presence, a->presence_length * sizeof a->presence[0]) == 0;
 }
 
 /* Prints what a message would do. Where it would be taken, the spare memory then holds the board after it. */
@@ -174,11 +221,13 @@ int main(int count, char **words) {
     for (size_t i = 0; i < messages; i++) {
         print_message(i + 1, trace[i]);
         print_permits("before", &arriving, alpha, beta);
-        if (trace[i].kind == BOARD_WITHDRAWAL)
+        if (takes_away(trace[i]))
             send_previewed(trace[i], alpha, beta);
         else
             print_answer("answer", board_message_on(&arriving, trace[i]));
         print_permits("after", &arriving, alpha, beta);
+        if (is_for_operator_or_ride(trace[i]))
+            print_presence(&arriving);
     }
 
     check(board_build_on(&in_order, START));

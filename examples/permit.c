@@ -3,7 +3,8 @@
 
 #include "board.h"
 
-BOARD_STORAGE(memory, 200, 60) = {{0, 3, 17}, {5, 5, 4}, {0}, {0}, {0}}; /* the pairs (0, 5), (3, 5) and (17, 4) */
+/* The pairs (0, 5), (3, 5) and (17, 4). */
+BOARD_STORAGE(memory, 200, 60) = {{0, 3, 17}, {5, 5, 4}, {0}, {0}, {0}, {0}, {0}, {0}};
 static Board board = BOARD_OVER(memory, 200, 60, 3);
 static uint16_t marks[BOARD_MARK_PLACES(200, 60)];
 

@@ -1,10 +1,12 @@
 /*
  * The crew cover board: its six calls for C11 and C++ on x86-64, in the static library libboard.a.
  *
- * A board says which operator is cleared for which ride. Operators have the numbers 0 to operators - 1, rides 0 to
- * rides - 1. Cover (alpha, beta) is the largest set of operators and rides in which each operator is cleared for at
- * least alpha rides of the set, and each ride has at least beta operators of it. A limit of 0 is no limit. The level of
- * an operator or ride in row alpha is the largest beta from 1 whose cover (alpha, beta) holds it, or 0.
+ * A board says which operator is cleared for which ride, which operators are on shift and which rides are in service.
+ * Operators have the numbers 0 to operators - 1, rides 0 to rides - 1. A pair of an operator and a ride counts if it is
+ * cleared, its operator is on and its ride is in. Cover (alpha, beta) is the largest set of operators who are on and
+ * rides that are in, in which each operator has at least alpha rides of the set by pairs that count, and each ride at
+ * least beta operators of it. A limit of 0 is no limit, but whoever is off or out is in no cover. The level of an
+ * operator or ride in row alpha is the largest beta from 1 whose cover (alpha, beta) holds it, or 0.
  *
  * The library has no memory of its own and asks for none: the caller lends every part of the board to each call. A
  * board of 200 operators and 60 rides in static memory, a message, and a dispatch permit for one ride:
@@ -20,6 +22,12 @@
  *
  *     BoardCounts counts = board_query_on(&board, 2, 3, marks, BOARD_LENGTH(marks));
  *     int permit = counts.code == BOARD_DONE && marks[BOARD_RIDE_MARK(board.head.operators, 5)] == 1;
+ *
+ * Operator 17 goes home; the clearance stays in the pair arrays, and counts again once the operator is on:
+ *
+ *     BoardMessage home = {.kind = BOARD_OPERATOR_OFF, .operator_number = 17, .stamp = 1700003600};
+ *     answer = board_message_on(&board, home);
+ *     int on = board.presence[BOARD_OPERATOR_PRESENCE(17)] == BOARD_PRESENT;
  *
  * The functions that end in _on lend a Board's parts to the plain calls, which take each part as a pointer to its first
  * place and the number of its places.
@@ -60,7 +68,7 @@ extern "C" {
 #endif
 
 /* The version of this header (docs/CHANGELOG.md), as a number to compare: 1.2.3 is 10203. */
-#define BOARD_VERSION_MAJOR 2
+#define BOARD_VERSION_MAJOR 3
 #define BOARD_VERSION_MINOR 0
 #define BOARD_VERSION_PATCH 0
 #define BOARD_VERSION (BOARD_VERSION_MAJOR * 10000 + BOARD_VERSION_MINOR * 100 + BOARD_VERSION_PATCH)
@@ -72,6 +80,12 @@ extern "C" {
 
 /* The largest revision of a message. */
 #define BOARD_REVISION_MOST 255
+
+/*
+ * The presence word of an operator who is on, and of a ride that is in. Any other word is off or out; a taken message
+ * of the kinds 4 and 6 writes 0.
+ */
+#define BOARD_PRESENT 1
 
 /* Needed lengths, in places */
 
@@ -86,6 +100,9 @@ extern "C" {
 
 /* The index: rides rows, each with a level for each operator and then each ride. */
 #define BOARD_INDEX_PLACES(operators, rides) ((size_t)(rides) * ((size_t)(operators) + (size_t)(rides)))
+
+/* The presence stamps, the presence revisions and the presence words, each: as the marks. */
+#define BOARD_PRESENCE_PLACES(operators, rides) ((size_t)(operators) + (size_t)(rides))
 
 /* The marks: each operator, then each ride. */
 #define BOARD_MARK_PLACES(operators, rides) ((size_t)(operators) + (size_t)(rides))
@@ -108,6 +125,10 @@ extern "C" {
 #define BOARD_OPERATOR_MARK(operator_number) ((size_t)(operator_number))
 #define BOARD_RIDE_MARK(operators, ride) ((size_t)(operators) + (size_t)(ride))
 
+/* The presence stamp, revision and word of an operator, and of a ride: the same place of other parts. */
+#define BOARD_OPERATOR_PRESENCE(operator_number) BOARD_OPERATOR_MARK(operator_number)
+#define BOARD_RIDE_PRESENCE(operators, ride) BOARD_RIDE_MARK(operators, ride)
+
 /*
  * The first word of row alpha in the index, for alpha from 1 to rides; in a row the levels lie as marks do. The index
  * has no row 0: a query with alpha 0 reads row 1.
@@ -116,7 +137,7 @@ extern "C" {
 
 /*
  * The numbers of documents 01 and 02 (docs/SCOPE.md). A call checks those named beside it below and gives the first one
- * that applies, in the order 1 to 9, 14, 10, 12.
+ * that applies, in the order 1 to 9, 14, 15, 10, 12.
  */
 enum BoardNumber {
     BOARD_DONE = 0,                /* done or taken */
@@ -126,18 +147,26 @@ enum BoardNumber {
     BOARD_PAIRS_OVER = 4,          /* pairs over operators x rides */
     BOARD_PAIR_MISPLACED = 5,      /* a pair out of range, or not strictly ascending */
     BOARD_STAMP_MISSING = 6,       /* message: a listed pair has stamp 0 */
-    BOARD_KIND_UNKNOWN = 7,        /* message: kind not 1 or 2 */
-    BOARD_OUT_OF_RANGE = 8,        /* message: operator or ride out of range */
+    BOARD_KIND_UNKNOWN = 7,        /* message: kind not 1 to 6 */
+    BOARD_OUT_OF_RANGE = 8,        /* message: operator or ride out of range, where the kind uses it */
     BOARD_STAMP_ZERO = 9,          /* message or starting stamp is 0 */
-    BOARD_NOT_LATER = 10,          /* message not later than the pair's last */
+    BOARD_NOT_LATER = 10,          /* message not later than the last of its pair, operator or ride */
     BOARD_LIMIT_ZERO = 11,         /* retired: never given since 1.2.0 */
     BOARD_MARK_UNKNOWN = 12,       /* peel: a mark in use is not 0 or 1 */
     BOARD_INPUT_LENGTH_WRONG = 13, /* program `cover`: input length wrong; no call answers it */
-    BOARD_REVISION_OVER = 14       /* message: revision over 255 */
+    BOARD_REVISION_OVER = 14,      /* message: revision over 255 */
+    BOARD_UNUSED_FIELD = 15        /* message: an unused field is not 0 */
 };
 
-/* The kinds of a message. */
-enum BoardKind { BOARD_GRANT = 1, BOARD_WITHDRAWAL = 2 };
+/* The kinds of a message, and what each is for: a pair, an operator or a ride. */
+enum BoardKind {
+    BOARD_GRANT = 1,        /* a pair: the operator is cleared for the ride */
+    BOARD_WITHDRAWAL = 2,   /* a pair: the clearance is taken away */
+    BOARD_OPERATOR_ON = 3,  /* an operator: on shift */
+    BOARD_OPERATOR_OFF = 4, /* an operator: off shift */
+    BOARD_RIDE_IN = 5,      /* a ride: in service */
+    BOARD_RIDE_OUT = 6      /* a ride: out of service */
+};
 
 /* What a peel answers in `settled`. */
 enum BoardSettled { BOARD_UNSETTLED = 0, BOARD_SETTLED = 1 };
@@ -164,8 +193,9 @@ typedef struct BoardPeeled {
 } BoardPeeled;
 
 /*
- * Message: a grant or a withdrawal of one pair. The revision, 0 to 255, orders corrections within one stamp.
- * (`operator` is a word that C++ reserves.)
+ * Message: for one pair a grant or a withdrawal, for one operator on or off, for one ride in or out. A message for an
+ * operator has ride 0, one for a ride has operator 0, else 15. The revision, 0 to 255, orders corrections within one
+ * stamp. (`operator` is a word that C++ reserves.)
  */
 typedef struct BoardMessage {
     uint16_t kind;
@@ -218,78 +248,102 @@ BOARD_ASSERT(offsetof(BoardAnswer, differ) == 2);
  * place the same pair, strictly ascending by operator and then ride. `start` is the stamp that they count as granted at.
  *
  * Writes zeros into both pair arrays from place `head.pairs` to operators x rides; into the stamps `start` for each
- * listed pair and 0 for every other one; into the revisions 0 for every pair; into the index every level.
+ * listed pair and 0 for every other one; into the revisions 0 for every pair; into the presence words 1 for every
+ * operator and every ride, whatever stood there, and into the presence stamps and revisions 0; into the index every
+ * level. So everybody is on and in after a build: send messages of the kinds 4 and 6 for those who are not.
  *
  * Answers BOARD_DONE, or of 1 to 5 and 9 the lowest that applies. A refusal leaves every lent word as it was.
  */
 uint16_t board_build(BoardHead head, uint16_t *operators, size_t operators_length, uint16_t *rides,
                      size_t rides_length, uint32_t start, uint32_t *stamps, size_t stamps_length, uint16_t *revisions,
-                     size_t revisions_length, uint16_t *index, size_t index_length);
+                     size_t revisions_length, uint16_t *index, size_t index_length, uint32_t *presence_stamps,
+                     size_t presence_stamps_length, uint16_t *presence_revisions, size_t presence_revisions_length,
+                     uint16_t *presence, size_t presence_length);
 
 /*
  * Query: who is in cover (alpha, beta). A limit of 0 is no limit.
  *
- * Reads the head's operators and rides, and row alpha of the index as a build or a message left it, row 1 for alpha 0.
- * Where the index has no such row, levels are 0.
+ * Reads the head's operators and rides, the presence words, and row alpha of the index as a build or a message left it,
+ * row 1 for alpha 0. Where the index has no such row, levels are 0.
  *
- * Writes a mark for each operator, then each ride, 1 or 0. An operator's is 1 exactly if alpha is 0 or its level is at
- * least beta and at least 1; a ride's exactly if beta is 0 or its level is at least beta. So an alpha above rides marks
- * nobody, or with beta 0 the rides alone; with both limits 0 everybody is marked.
+ * Writes a mark for each operator, then each ride, 1 or 0. An operator's is 1 exactly if the operator is on, and alpha
+ * is 0 or its level is at least beta and at least 1; a ride's exactly if the ride is in, and beta is 0 or its level is
+ * at least beta. Nobody who is off or out is marked, whatever the index holds. So an alpha above rides marks nobody, or
+ * with beta 0 the rides that are in alone; with both limits 0 everybody who is on or in is marked.
  *
  * Answers BOARD_DONE with the counts of operators and rides marked, or of 1, 2 and 3 the lowest that applies, with
  * counts 0. An index that is too short is 3 also where no level decides. A refusal leaves every lent word as it was.
  *
- * Never take a dispatch permit from beta 0: every ride is then marked, also one that no operator is cleared for. A
- * permit needs a query or peel with beta from 1.
+ * Never take a dispatch permit from beta 0: every ride that is in is then marked, also one that no operator is cleared
+ * for. A permit needs a query or peel with beta from 1.
  *
- * A damaged index gives permits: where a word of the row was set to 60,000, say, its operator or ride is marked. All
- * operators where alpha is 0, and all rides where beta is 0, are marked whatever the index holds. To check the marks,
- * peel all ones on the same board under the same limits with operators + rides steps: this gives the cover from the
- * pair arrays alone, and its marks must equal the query's.
+ * Index and presence words are those of one board, as its last build or message left them: the levels already leave out
+ * the pairs of whoever is off or out. With presence words of another board, or with a word that was written without a
+ * message, the marks are no cover: a ride can be marked by levels that count operators who are off by those words.
+ *
+ * A damaged index gives permits: where a word of the row was set to 60,000, say, its operator or ride is marked, if it
+ * is on or in. All operators who are on where alpha is 0, and all rides that are in where beta is 0, are marked
+ * whatever the index holds. To check the marks, peel all ones on the same board under the same limits with operators +
+ * rides steps: this gives the cover from the pair arrays and the presence words alone, and its marks must equal the
+ * query's.
  */
-BoardCounts board_query(BoardHead head, const uint16_t *index, size_t index_length, uint16_t alpha, uint16_t beta,
-                        uint16_t *marks, size_t marks_length);
+BoardCounts board_query(BoardHead head, const uint16_t *index, size_t index_length, const uint16_t *presence,
+                        size_t presence_length, uint16_t alpha, uint16_t beta, uint16_t *marks, size_t marks_length);
 
 /*
  * Peel: drops whoever falls short, one step at a time, with no use of the index.
  *
- * Reads the head, the listed pairs and the marks, each 0 or 1. One step clears the mark of the lowest-numbered marked
- * operator with fewer than alpha marked rides; if there is none, of the lowest-numbered marked ride with fewer than
- * beta marked operators. A limit of 0 is no limit: nobody falls short of it. So a peel with beta 0 keeps every marked
- * ride, and no dispatch permit comes from it.
+ * Reads the head, the listed pairs, the presence words and the marks, each 0 or 1. One step clears the mark of the
+ * lowest-numbered marked operator who is off or has fewer than alpha marked rides; if there is none, of the
+ * lowest-numbered marked ride that is out or has fewer than beta marked operators. Only pairs that count are counted. A
+ * limit of 0 is no limit: only whoever is off or out falls short of it. So a peel with beta 0 keeps every marked ride
+ * that is in, and no dispatch permit comes from it.
  *
- * Writes the marks as the steps leave them, at most `steps` of them.
+ * Writes the marks as the steps leave them, at most `steps` of them. Whoever is off or out takes a step like anybody
+ * else, and stays marked where the steps do not suffice.
  *
  * Answers BOARD_DONE with BOARD_SETTLED when nobody falls short, or with BOARD_UNSETTLED exactly if all allowed steps
  * were taken and somebody still falls short, and with the steps taken. Settled marks are the largest set inside the
  * marks that came in; from all ones that is cover (alpha, beta). Or of 1 to 5 and 12 the lowest that applies, with
- * settled and steps 0. A refusal leaves every lent word as it was.
+ * settled and steps 0; 12 looks at the marks of those who are off or out too. A refusal leaves every lent word as it
+ * was.
  */
 BoardPeeled board_peel(BoardHead head, const uint16_t *operators, size_t operators_length, const uint16_t *rides,
-                       size_t rides_length, uint16_t *marks, size_t marks_length, uint16_t alpha, uint16_t beta,
-                       uint16_t steps);
+                       size_t rides_length, const uint16_t *presence, size_t presence_length, uint16_t *marks,
+                       size_t marks_length, uint16_t alpha, uint16_t beta, uint16_t steps);
 
 /*
- * Message: takes one grant or withdrawal, if it is later than the last one that the board took for its pair.
+ * Message: takes one message, if it is later than the last one that the board took for its pair, its operator or its
+ * ride.
  *
- * Reads the whole board and the message. Of two messages for one pair the later has the larger stamp; at equal stamps
- * the larger revision; at both equal a withdrawal is later than a grant. Pairs listed at the build count as grants of
- * the starting stamp and revision 0. The pair's last has the stamp and the revision that the board holds for it, and is
- * a grant exactly if the pair is listed. A revision in the board is compared as it stands, also over 255.
+ * Reads the whole board and the message. The kinds 1 and 2 are for a pair, 3 and 4 for an operator, 5 and 6 for a ride.
+ * Of two messages for one pair, operator or ride the later has the larger stamp; at equal stamps the larger revision;
+ * at both equal a withdrawal is later than a grant, off later than on, and out later than in. Pairs listed at the build
+ * count as grants of the starting stamp and revision 0. The pair's last has the stamp and the revision that the board
+ * holds for it, and is a grant exactly if the pair is listed; an operator's or a ride's last has its presence stamp and
+ * revision, and is on or in exactly if its presence word is 1. A revision in the board is compared as it stands, also
+ * over 255.
  *
- * Writes, where it is taken: the pair's stamp and revision; the pair arrays with the pair added or removed where
- * needed, and zeros up to their end; the head's pair count; and the whole index, whatever words came in. A withdrawal
- * of a pair that was never granted is taken too, for its stamp and revision.
+ * Writes, where it is taken: for a pair its stamp and revision, and the pair arrays with the pair added or removed
+ * where needed; for an operator or a ride its presence stamp, revision and word, 1 for on or in and 0 for off or out.
+ * For every kind: zeros in the pair arrays past the pairs up to their end; the head's pair count; and the whole index
+ * of the pairs that count, whatever words came in. A withdrawal of a pair that was never granted is taken too, for its
+ * stamp and revision. A grant is listed also where its operator is off or its ride is out, and counts once both are on
+ * and in.
  *
- * Answers BOARD_DONE with the number of index words that differ before and after, or of 1 to 9, 14 and 10, in this
- * order, the first that applies, with count 0. A refusal leaves every lent word as it was.
+ * Answers BOARD_DONE with the number of index words that differ before and after, or of 1 to 9, 14, 15 and 10, in this
+ * order, the first that applies, with count 0. 6 looks at every listed pair, for every kind. 8 looks only at the fields
+ * that the kind uses; 15 says that the one it doesn't use is not 0. A refusal leaves every lent word as it was.
  *
- * A message is valid if none of 7, 8, 9 and 14 applies to it. After a build and any messages the board is that of the
- * latest valid message of each pair, in whatever order they came.
+ * A message is valid if none of 7, 8, 9, 14 and 15 applies to it. After a build and any messages the board is that of
+ * the latest valid message of each pair, operator and ride, in whatever order they came.
  */
 BoardAnswer board_message(BoardHead *head, uint16_t *operators, size_t operators_length, uint16_t *rides,
                           size_t rides_length, uint32_t *stamps, size_t stamps_length, uint16_t *revisions,
-                          size_t revisions_length, uint16_t *index, size_t index_length, BoardMessage message);
+                          size_t revisions_length, uint16_t *index, size_t index_length, uint32_t *presence_stamps,
+                          size_t presence_stamps_length, uint16_t *presence_revisions,
+                          size_t presence_revisions_length, uint16_t *presence, size_t presence_length,
+                          BoardMessage message);
 
 /*
  * Message list: takes messages in order, each as board_message does.
@@ -304,7 +358,9 @@ BoardAnswer board_message(BoardHead *head, uint16_t *operators, size_t operators
  */
 uint16_t board_messages(BoardHead *head, uint16_t *operators, size_t operators_length, uint16_t *rides,
                         size_t rides_length, uint32_t *stamps, size_t stamps_length, uint16_t *revisions,
-                        size_t revisions_length, uint16_t *index, size_t index_length, const BoardMessage *messages,
+                        size_t revisions_length, uint16_t *index, size_t index_length, uint32_t *presence_stamps,
+                        size_t presence_stamps_length, uint16_t *presence_revisions, size_t presence_revisions_length,
+                        uint16_t *presence, size_t presence_length, const BoardMessage *messages,
                         size_t messages_length, uint16_t *answers, size_t answers_length);
 
 /*
@@ -319,16 +375,22 @@ uint16_t board_messages(BoardHead *head, uint16_t *operators, size_t operators_l
  * words in the board.
  *
  * Answers what board_message would answer: BOARD_DONE with the number of index words that differ before and after, or
- * of 1 to 9, 14 and 10, in this order, the first that applies, with count 0. A spare part that is too short is 3. A
+ * of 1 to 9, 14, 15 and 10, in this order, the first that applies, with count 0. A spare part that is too short is 3. A
  * refusal leaves every lent word as it was, the spare head too.
  */
 BoardAnswer board_preview(BoardHead head, const uint16_t *operators, size_t operators_length, const uint16_t *rides,
                           size_t rides_length, const uint32_t *stamps, size_t stamps_length, const uint16_t *revisions,
-                          size_t revisions_length, const uint16_t *index, size_t index_length, BoardMessage message,
+                          size_t revisions_length, const uint16_t *index, size_t index_length,
+                          const uint32_t *presence_stamps, size_t presence_stamps_length,
+                          const uint16_t *presence_revisions, size_t presence_revisions_length,
+                          const uint16_t *presence, size_t presence_length, BoardMessage message,
                           BoardHead *spare_head, uint16_t *spare_operators, size_t spare_operators_length,
                           uint16_t *spare_rides, size_t spare_rides_length, uint32_t *spare_stamps,
                           size_t spare_stamps_length, uint16_t *spare_revisions, size_t spare_revisions_length,
-                          uint16_t *spare_index, size_t spare_index_length);
+                          uint16_t *spare_index, size_t spare_index_length, uint32_t *spare_presence_stamps,
+                          size_t spare_presence_stamps_length, uint16_t *spare_presence_revisions,
+                          size_t spare_presence_revisions_length, uint16_t *spare_presence,
+                          size_t spare_presence_length);
 
 /*
  * A board as one thing: its head, and each part with its length. Keep one Board for one board: a copy has a head of its
@@ -346,35 +408,49 @@ typedef struct Board {
     size_t revisions_length;
     uint16_t *index;
     size_t index_length;
+    uint32_t *presence_stamps;
+    size_t presence_stamps_length;
+    uint16_t *presence_revisions;
+    size_t presence_revisions_length;
+    uint16_t *presence;
+    size_t presence_length;
 } Board;
 
 /*
  * Declares static storage for the parts of a board, all zeros where no initialiser stands behind it. With one, here for
  * the pairs (0, 5), (3, 5) and (17, 4):
  *
- *     BOARD_STORAGE(memory, 200, 60) = {{0, 3, 17}, {5, 5, 4}, {0}, {0}, {0}};
+ *     BOARD_STORAGE(memory, 200, 60) = {{0, 3, 17}, {5, 5, 4}, {0}, {0}, {0}, {0}, {0}, {0}};
+ *
+ * A build fills what is {0} here, and sets everybody on and in.
  */
-#define BOARD_STORAGE(name, operator_count, ride_count)                                     \
-    static struct {                                                                         \
-        uint16_t operators[BOARD_ARRAY(BOARD_PAIR_PLACES(operator_count, ride_count))];     \
-        uint16_t rides[BOARD_ARRAY(BOARD_PAIR_PLACES(operator_count, ride_count))];         \
-        uint32_t stamps[BOARD_ARRAY(BOARD_STAMP_PLACES(operator_count, ride_count))];       \
-        uint16_t revisions[BOARD_ARRAY(BOARD_REVISION_PLACES(operator_count, ride_count))]; \
-        uint16_t index[BOARD_ARRAY(BOARD_INDEX_PLACES(operator_count, ride_count))];        \
+#define BOARD_STORAGE(name, operator_count, ride_count)                                              \
+    static struct {                                                                                  \
+        uint16_t operators[BOARD_ARRAY(BOARD_PAIR_PLACES(operator_count, ride_count))];              \
+        uint16_t rides[BOARD_ARRAY(BOARD_PAIR_PLACES(operator_count, ride_count))];                  \
+        uint32_t stamps[BOARD_ARRAY(BOARD_STAMP_PLACES(operator_count, ride_count))];                \
+        uint16_t revisions[BOARD_ARRAY(BOARD_REVISION_PLACES(operator_count, ride_count))];          \
+        uint16_t index[BOARD_ARRAY(BOARD_INDEX_PLACES(operator_count, ride_count))];                 \
+        uint32_t presence_stamps[BOARD_ARRAY(BOARD_PRESENCE_PLACES(operator_count, ride_count))];    \
+        uint16_t presence_revisions[BOARD_ARRAY(BOARD_PRESENCE_PLACES(operator_count, ride_count))]; \
+        uint16_t presence[BOARD_ARRAY(BOARD_PRESENCE_PLACES(operator_count, ride_count))];           \
     } name
 
 /* An array has a place at least, also where a board needs none. */
 #define BOARD_ARRAY(places) ((places) == 0 ? 1 : (places))
 
 /* The initialiser of a Board over such storage. Storage for a smaller board is too short: the calls answer 3. */
-#define BOARD_OVER(storage, operator_count, ride_count, pair_count) \
-    {                                                               \
-        {operator_count, ride_count, pair_count},                   \
-        (storage).operators, BOARD_LENGTH((storage).operators),     \
-        (storage).rides, BOARD_LENGTH((storage).rides),             \
-        (storage).stamps, BOARD_LENGTH((storage).stamps),           \
-        (storage).revisions, BOARD_LENGTH((storage).revisions),     \
-        (storage).index, BOARD_LENGTH((storage).index)              \
+#define BOARD_OVER(storage, operator_count, ride_count, pair_count)               \
+    {                                                                             \
+        {operator_count, ride_count, pair_count},                                 \
+        (storage).operators, BOARD_LENGTH((storage).operators),                   \
+        (storage).rides, BOARD_LENGTH((storage).rides),                           \
+        (storage).stamps, BOARD_LENGTH((storage).stamps),                         \
+        (storage).revisions, BOARD_LENGTH((storage).revisions),                   \
+        (storage).index, BOARD_LENGTH((storage).index),                           \
+        (storage).presence_stamps, BOARD_LENGTH((storage).presence_stamps),       \
+        (storage).presence_revisions, BOARD_LENGTH((storage).presence_revisions), \
+        (storage).presence, BOARD_LENGTH((storage).presence)                      \
     }
 
 /* Each call over a Board: the plain call with the parts of the board. */
@@ -382,40 +458,51 @@ typedef struct Board {
 static inline uint16_t board_build_on(const Board *board, uint32_t start) {
     return board_build(board->head, board->operators, board->operators_length, board->rides, board->rides_length, start,
                        board->stamps, board->stamps_length, board->revisions, board->revisions_length, board->index,
-                       board->index_length);
+                       board->index_length, board->presence_stamps, board->presence_stamps_length,
+                       board->presence_revisions, board->presence_revisions_length, board->presence,
+                       board->presence_length);
 }
 
 static inline BoardCounts board_query_on(const Board *board, uint16_t alpha, uint16_t beta, uint16_t *marks,
                                          size_t marks_length) {
-    return board_query(board->head, board->index, board->index_length, alpha, beta, marks, marks_length);
+    return board_query(board->head, board->index, board->index_length, board->presence, board->presence_length, alpha,
+                       beta, marks, marks_length);
 }
 
 static inline BoardPeeled board_peel_on(const Board *board, uint16_t *marks, size_t marks_length, uint16_t alpha,
                                         uint16_t beta, uint16_t steps) {
-    return board_peel(board->head, board->operators, board->operators_length, board->rides, board->rides_length, marks,
-                      marks_length, alpha, beta, steps);
+    return board_peel(board->head, board->operators, board->operators_length, board->rides, board->rides_length,
+                      board->presence, board->presence_length, marks, marks_length, alpha, beta, steps);
 }
 
 static inline BoardAnswer board_message_on(Board *board, BoardMessage message) {
     return board_message(&board->head, board->operators, board->operators_length, board->rides, board->rides_length,
                          board->stamps, board->stamps_length, board->revisions, board->revisions_length, board->index,
-                         board->index_length, message);
+                         board->index_length, board->presence_stamps, board->presence_stamps_length,
+                         board->presence_revisions, board->presence_revisions_length, board->presence,
+                         board->presence_length, message);
 }
 
 static inline uint16_t board_messages_on(Board *board, const BoardMessage *messages, size_t messages_length,
                                          uint16_t *answers, size_t answers_length) {
     return board_messages(&board->head, board->operators, board->operators_length, board->rides, board->rides_length,
                           board->stamps, board->stamps_length, board->revisions, board->revisions_length, board->index,
-                          board->index_length, messages, messages_length, answers, answers_length);
+                          board->index_length, board->presence_stamps, board->presence_stamps_length,
+                          board->presence_revisions, board->presence_revisions_length, board->presence,
+                          board->presence_length, messages, messages_length, answers, answers_length);
 }
 
 /* `spare` is another Board, over storage of its own. */
 static inline BoardAnswer board_preview_on(const Board *board, BoardMessage message, Board *spare) {
     return board_preview(board->head, board->operators, board->operators_length, board->rides, board->rides_length,
                          board->stamps, board->stamps_length, board->revisions, board->revisions_length, board->index,
-                         board->index_length, message, &spare->head, spare->operators, spare->operators_length,
+                         board->index_length, board->presence_stamps, board->presence_stamps_length,
+                         board->presence_revisions, board->presence_revisions_length, board->presence,
+                         board->presence_length, message, &spare->head, spare->operators, spare->operators_length,
                          spare->rides, spare->rides_length, spare->stamps, spare->stamps_length, spare->revisions,
-                         spare->revisions_length, spare->index, spare->index_length);
+                         spare->revisions_length, spare->index, spare->index_length, spare->presence_stamps,
+                         spare->presence_stamps_length, spare->presence_revisions, spare->presence_revisions_length,
+                         spare->presence, spare->presence_length);
 }
 
 /* The text of a number. */
@@ -436,13 +523,13 @@ static inline const char *board_text(uint16_t code) {
     case BOARD_STAMP_MISSING:
         return "message: a listed pair has stamp 0";
     case BOARD_KIND_UNKNOWN:
-        return "message: kind not 1 or 2";
+        return "message: kind not 1 to 6";
     case BOARD_OUT_OF_RANGE:
         return "message: operator or ride out of range";
     case BOARD_STAMP_ZERO:
         return "message or starting stamp is 0";
     case BOARD_NOT_LATER:
-        return "message not later than the pair's last";
+        return "message not later than the last of its pair, operator or ride";
     case BOARD_LIMIT_ZERO:
         return "retired: limits may be 0";
     case BOARD_MARK_UNKNOWN:
@@ -451,6 +538,8 @@ static inline const char *board_text(uint16_t code) {
         return "program: input length wrong";
     case BOARD_REVISION_OVER:
         return "message: revision over 255";
+    case BOARD_UNUSED_FIELD:
+        return "message: an unused field is not 0";
     default:
         return "no number of the board";
     }

@@ -3,9 +3,17 @@
 
 use crate::{Answer, Counts, Head, Lengths, Message, Parts, Peeled, Slices, Vectors};
 
-/// The most places of each part that a frame may lend.
-pub const PAIR_PLACES: usize = 12_300;
-pub const INDEX_PLACES: usize = 16_000;
+/// The most places of each part of a board, of the marks and of the answers that a frame may lend.
+pub const PLACES: Lengths = Parts {
+    operators: 12_300,
+    rides: 12_300,
+    stamps: 12_300,
+    revisions: 12_300,
+    index: 16_000,
+    presence_stamps: 270,
+    presence_revisions: 270,
+    presence: 270,
+};
 pub const MARK_PLACES: usize = 270;
 pub const ANSWER_PLACES: usize = 70;
 
@@ -57,13 +65,7 @@ pub type Framed = Parts<Part<u16>, Part<u32>>;
 impl Framed {
     /// Lent as the call before left them.
     pub fn kept(lengths: Lengths) -> Self {
-        Parts {
-            operators: Part::kept(lengths.operators),
-            rides: Part::kept(lengths.rides),
-            stamps: Part::kept(lengths.stamps),
-            revisions: Part::kept(lengths.revisions),
-            index: Part::kept(lengths.index),
-        }
+        lengths.map(Part::kept, Part::kept)
     }
 }
 
@@ -108,8 +110,24 @@ impl Word for u32 {
 #[derive(Clone, Debug, PartialEq, Eq)]
 pub enum Call {
     Build { head: Head, start: u32, parts: Framed },
-    Query { head: Head, alpha: u16, beta: u16, index: Part<u16>, marks: Part<u16> },
-    Peel { head: Head, alpha: u16, beta: u16, steps: u16, operators: Part<u16>, rides: Part<u16>, marks: Part<u16> },
+    Query {
+        head: Head,
+        alpha: u16,
+        beta: u16,
+        index: Part<u16>,
+        presence: Part<u16>,
+        marks: Part<u16>,
+    },
+    Peel {
+        head: Head,
+        alpha: u16,
+        beta: u16,
+        steps: u16,
+        operators: Part<u16>,
+        rides: Part<u16>,
+        presence: Part<u16>,
+        marks: Part<u16>,
+    },
     Message { head: Head, message: Message, parts: Framed },
     Messages { head: Head, messages: Vec<Message>, parts: Framed, answers: Part<u16> },
 }
@@ -140,12 +158,15 @@ fn put_part<T: Word>(frame: &mut Vec<u16>, part: &Part<T>) {
 }
 
 fn put_parts(frame: &mut Vec<u16>, parts: &Framed) {
-    let Parts { operators, rides, stamps, revisions, index } = parts;
+    let Parts { operators, rides, stamps, revisions, index, presence_stamps, presence_revisions, presence } = parts;
     put_part(frame, operators);
     put_part(frame, rides);
     put_part(frame, stamps);
     put_part(frame, revisions);
     put_part(frame, index);
+    put_part(frame, presence_stamps);
+    put_part(frame, presence_revisions);
+    put_part(frame, presence);
 }
 
 impl Call {
@@ -159,19 +180,21 @@ impl Call {
                 start.put(&mut frame);
                 put_parts(&mut frame, parts);
             }
-            Call::Query { head, alpha, beta, index, marks } => {
+            Call::Query { head, alpha, beta, index, presence, marks } => {
                 frame.push(QUERY);
                 put_head(&mut frame, *head);
                 frame.extend([*alpha, *beta]);
                 put_part(&mut frame, index);
+                put_part(&mut frame, presence);
                 put_part(&mut frame, marks);
             }
-            Call::Peel { head, alpha, beta, steps, operators, rides, marks } => {
+            Call::Peel { head, alpha, beta, steps, operators, rides, presence, marks } => {
                 frame.push(PEEL);
                 put_head(&mut frame, *head);
                 frame.extend([*alpha, *beta, *steps]);
                 put_part(&mut frame, operators);
                 put_part(&mut frame, rides);
+                put_part(&mut frame, presence);
                 put_part(&mut frame, marks);
             }
             Call::Message { head, message, parts } => {
@@ -214,13 +237,22 @@ pub fn write_end(stream: &mut Vec<u8>) {
 /// The calls that a stream is replayed on.
 pub trait Board {
     fn build(&mut self, head: Head, parts: &mut Slices, start: u32) -> u16;
-    fn query(&mut self, head: Head, index: &[u16], alpha: u16, beta: u16, marks: &mut [u16]) -> Counts;
+    fn query(
+        &mut self,
+        head: Head,
+        index: &[u16],
+        presence: &[u16],
+        alpha: u16,
+        beta: u16,
+        marks: &mut [u16],
+    ) -> Counts;
     #[allow(clippy::too_many_arguments)]
     fn peel(
         &mut self,
         head: Head,
         operators: &[u16],
         rides: &[u16],
+        presence: &[u16],
         marks: &mut [u16],
         alpha: u16,
         beta: u16,
@@ -238,8 +270,16 @@ impl Board for Reference {
         crate::build(head, parts, start)
     }
 
-    fn query(&mut self, head: Head, index: &[u16], alpha: u16, beta: u16, marks: &mut [u16]) -> Counts {
-        crate::query(head, index, alpha, beta, marks)
+    fn query(
+        &mut self,
+        head: Head,
+        index: &[u16],
+        presence: &[u16],
+        alpha: u16,
+        beta: u16,
+        marks: &mut [u16],
+    ) -> Counts {
+        crate::query(head, index, presence, alpha, beta, marks)
     }
 
     fn peel(
@@ -247,12 +287,13 @@ impl Board for Reference {
         head: Head,
         operators: &[u16],
         rides: &[u16],
+        presence: &[u16],
         marks: &mut [u16],
         alpha: u16,
         beta: u16,
         steps: u16,
     ) -> Peeled {
-        crate::peel(head, operators, rides, marks, alpha, beta, steps)
+        crate::peel(head, operators, rides, presence, marks, alpha, beta, steps)
     }
 
     fn message(&mut self, head: &mut Head, parts: &mut Slices, message: Message) -> Answer {
@@ -273,13 +314,7 @@ pub struct Memory {
 
 impl Default for Memory {
     fn default() -> Self {
-        let parts = Parts {
-            operators: vec![0; PAIR_PLACES],
-            rides: vec![0; PAIR_PLACES],
-            stamps: vec![0; PAIR_PLACES],
-            revisions: vec![0; PAIR_PLACES],
-            index: vec![0; INDEX_PLACES],
-        };
+        let parts = PLACES.map(|places| vec![0; places], |places| vec![0; places]);
         Memory { parts, marks: vec![0; MARK_PLACES], answers: vec![0; ANSWER_PLACES] }
     }
 }
@@ -295,13 +330,8 @@ fn lend<'a, T: Word>(memory: &'a mut [T], part: &Part<T>) -> &'a mut [T] {
 }
 
 fn lend_parts<'a>(memory: &'a mut Vectors, parts: &Framed) -> Slices<'a> {
-    Parts {
-        operators: lend(&mut memory.operators, &parts.operators),
-        rides: lend(&mut memory.rides, &parts.rides),
-        stamps: lend(&mut memory.stamps, &parts.stamps),
-        revisions: lend(&mut memory.revisions, &parts.revisions),
-        index: lend(&mut memory.index, &parts.index),
-    }
+    let both = memory.lend().zip(parts.each_ref());
+    both.map(|(memory, part)| lend(memory, part), |(memory, part)| lend(memory, part))
 }
 
 /// What a call answered: its numbers, the first of them document 01's, and the checksum of all that it was lent.
@@ -329,9 +359,16 @@ fn head_checksum(head: Head) -> u64 {
 }
 
 fn parts_checksum(before: u64, parts: &Slices) -> u64 {
-    let Parts { operators, rides, stamps, revisions, index } = parts;
-    let pairs = checksum(checksum(before, operators), rides);
-    checksum(checksum(checksum(pairs, stamps), revisions), index)
+    let Parts { operators, rides, stamps, revisions, index, presence_stamps, presence_revisions, presence } = parts;
+    let mut sum = before;
+    sum = checksum(sum, operators);
+    sum = checksum(sum, rides);
+    sum = checksum(sum, stamps);
+    sum = checksum(sum, revisions);
+    sum = checksum(sum, index);
+    sum = checksum(sum, presence_stamps);
+    sum = checksum(sum, presence_revisions);
+    checksum(sum, presence)
 }
 
 impl Call {
@@ -343,20 +380,24 @@ impl Call {
                 let code = board.build(*head, &mut parts, *start);
                 (Outcome { numbers: vec![code], checksum: parts_checksum(0, &parts) }, *head)
             }
-            Call::Query { head, alpha, beta, index, marks } => {
+            Call::Query { head, alpha, beta, index, presence, marks } => {
                 let index = lend(&mut memory.parts.index, index);
+                let presence = lend(&mut memory.parts.presence, presence);
                 let marks = lend(&mut memory.marks, marks);
-                let counts = board.query(*head, index, *alpha, *beta, marks);
+                let counts = board.query(*head, index, presence, *alpha, *beta, marks);
                 let numbers = vec![counts.code, counts.operators, counts.rides];
-                (Outcome { numbers, checksum: checksum(checksum(0, index), marks) }, *head)
+                let sum = checksum(checksum(0, index), presence);
+                (Outcome { numbers, checksum: checksum(sum, marks) }, *head)
             }
-            Call::Peel { head, alpha, beta, steps, operators, rides, marks } => {
+            Call::Peel { head, alpha, beta, steps, operators, rides, presence, marks } => {
                 let operators = lend(&mut memory.parts.operators, operators);
                 let rides = lend(&mut memory.parts.rides, rides);
+                let presence = lend(&mut memory.parts.presence, presence);
                 let marks = lend(&mut memory.marks, marks);
-                let peeled = board.peel(*head, operators, rides, marks, *alpha, *beta, *steps);
+                let peeled = board.peel(*head, operators, rides, presence, marks, *alpha, *beta, *steps);
                 let numbers = vec![peeled.code, peeled.settled, peeled.steps];
-                (Outcome { numbers, checksum: checksum(checksum(checksum(0, operators), rides), marks) }, *head)
+                let sum = checksum(checksum(checksum(0, operators), rides), presence);
+                (Outcome { numbers, checksum: checksum(sum, marks) }, *head)
             }
             Call::Message { head, message, parts } => {
                 let mut head = *head;
@@ -417,8 +458,16 @@ impl<'a> Cursor<'a> {
     }
 
     fn parts(&mut self) -> Framed {
-        let (operators, rides, stamps) = (self.part(), self.part(), self.part());
-        Parts { operators, rides, stamps, revisions: self.part(), index: self.part() }
+        Parts {
+            operators: self.part(),
+            rides: self.part(),
+            stamps: self.part(),
+            revisions: self.part(),
+            index: self.part(),
+            presence_stamps: self.part(),
+            presence_revisions: self.part(),
+            presence: self.part(),
+        }
     }
 
     /// The next call, or none at the stream's end.
@@ -433,6 +482,7 @@ impl<'a> Cursor<'a> {
                 alpha: self.word(),
                 beta: self.word(),
                 index: self.part(),
+                presence: self.part(),
                 marks: self.part(),
             },
             PEEL => Call::Peel {
@@ -442,6 +492,7 @@ impl<'a> Cursor<'a> {
                 steps: self.word(),
                 operators: self.part(),
                 rides: self.part(),
+                presence: self.part(),
                 marks: self.part(),
             },
             MESSAGE => Call::Message { head: self.head(), message: self.message(), parts: self.parts() },

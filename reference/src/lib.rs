@@ -4,10 +4,12 @@
 
 pub mod corrections;
 pub mod frames;
+pub mod presence;
 pub mod samples;
 
 use std::collections::BTreeSet;
 use std::io::Write;
+use std::ops::Deref;
 
 /// Head: the sizes, and the number of pairs.
 #[derive(Clone, Copy, Debug, PartialEq, Eq)]
@@ -19,13 +21,16 @@ pub struct Head {
 }
 
 /// The parts of a board, in the order they are lent: an `A` for each part of 16-bit words, a `B` for each of 32-bit words.
-#[derive(Clone, Debug, Default, PartialEq, Eq)]
+#[derive(Clone, Copy, Debug, Default, PartialEq, Eq)]
 pub struct Parts<A, B> {
     pub operators: A,
     pub rides: A,
     pub stamps: B,
     pub revisions: A,
     pub index: A,
+    pub presence_stamps: B,
+    pub presence_revisions: A,
+    pub presence: A,
 }
 
 /// The parts as a call is lent them.
@@ -40,44 +45,80 @@ pub type Vectors = Parts<Vec<u16>, Vec<u32>>;
 /// The places of each part.
 pub type Lengths = Parts<usize, usize>;
 
+impl<A, B> Parts<A, B> {
+    /// What two functions make of each part: one of those of 16-bit words, one of those of 32-bit words.
+    pub fn map<C, D>(self, mut words: impl FnMut(A) -> C, mut stamps: impl FnMut(B) -> D) -> Parts<C, D> {
+        Parts {
+            operators: words(self.operators),
+            rides: words(self.rides),
+            stamps: stamps(self.stamps),
+            revisions: words(self.revisions),
+            index: words(self.index),
+            presence_stamps: stamps(self.presence_stamps),
+            presence_revisions: words(self.presence_revisions),
+            presence: words(self.presence),
+        }
+    }
+
+    /// Each part with the same part of others.
+    pub fn zip<C, D>(self, others: Parts<C, D>) -> Parts<(A, C), (B, D)> {
+        Parts {
+            operators: (self.operators, others.operators),
+            rides: (self.rides, others.rides),
+            stamps: (self.stamps, others.stamps),
+            revisions: (self.revisions, others.revisions),
+            index: (self.index, others.index),
+            presence_stamps: (self.presence_stamps, others.presence_stamps),
+            presence_revisions: (self.presence_revisions, others.presence_revisions),
+            presence: (self.presence, others.presence),
+        }
+    }
+
+    pub fn each_ref(&self) -> Parts<&A, &B> {
+        let Parts { operators, rides, stamps, revisions, index, presence_stamps, presence_revisions, presence } = self;
+        Parts { operators, rides, stamps, revisions, index, presence_stamps, presence_revisions, presence }
+    }
+
+    pub fn each_mut(&mut self) -> Parts<&mut A, &mut B> {
+        let Parts { operators, rides, stamps, revisions, index, presence_stamps, presence_revisions, presence } = self;
+        Parts { operators, rides, stamps, revisions, index, presence_stamps, presence_revisions, presence }
+    }
+}
+
+impl<A: Deref<Target = [u16]>, B: Deref<Target = [u32]>> Parts<A, B> {
+    /// The places that each part has.
+    pub fn lengths(&self) -> Lengths {
+        self.each_ref().map(|part| part.len(), |part| part.len())
+    }
+
+    /// The same words in memory of their own.
+    pub fn copy(&self) -> Vectors {
+        self.each_ref().map(|part| part.to_vec(), |part| part.to_vec())
+    }
+}
+
 impl Vectors {
     /// Lends every part in its whole length.
     pub fn lend(&mut self) -> Slices<'_> {
-        let Parts { operators, rides, stamps, revisions, index } = self;
-        Parts { operators, rides, stamps, revisions, index }
+        self.each_mut().map(Vec::as_mut_slice, Vec::as_mut_slice)
     }
 
     /// Lends every part in its whole length, to be read.
     pub fn view(&self) -> Views<'_> {
-        let Parts { operators, rides, stamps, revisions, index } = self;
-        Parts { operators, rides, stamps, revisions, index }
+        self.each_ref().map(Vec::as_slice, Vec::as_slice)
     }
-}
 
-impl Views<'_> {
-    /// The same words in memory of their own.
-    pub fn copy(&self) -> Vectors {
-        let Parts { operators, rides, stamps, revisions, index } = self;
-        Parts {
-            operators: operators.to_vec(),
-            rides: rides.to_vec(),
-            stamps: stamps.to_vec(),
-            revisions: revisions.to_vec(),
-            index: index.to_vec(),
-        }
+    /// So many of the first places of each part.
+    pub fn first(&self, lengths: Lengths) -> Views<'_> {
+        self.view().zip(lengths).map(|(part, length)| &part[..length], |(part, length)| &part[..length])
     }
 }
 
 impl Lengths {
-    /// What a function makes of each length, in the order of the parts.
-    pub fn map(self, mut to: impl FnMut(usize) -> usize) -> Self {
-        Parts {
-            operators: to(self.operators),
-            rides: to(self.rides),
-            stamps: to(self.stamps),
-            revisions: to(self.revisions),
-            index: to(self.index),
-        }
+    /// The lengths, in the order of the parts.
+    pub fn list(self) -> [usize; 8] {
+        let Parts { operators, rides, stamps, revisions, index, presence_stamps, presence_revisions, presence } = self;
+        [operators, rides, stamps, revisions, index, presence_stamps, presence_revisions, presence]
     }
 }
 
@@ -99,13 +140,21 @@ pub struct Peeled {
     pub steps: u16,
 }
 
+/// The kinds of a message.
 pub const GRANT: u16 = 1;
 pub const WITHDRAWAL: u16 = 2;
+pub const OPERATOR_ON: u16 = 3;
+pub const OPERATOR_OFF: u16 = 4;
+pub const RIDE_IN: u16 = 5;
+pub const RIDE_OUT: u16 = 6;
+
+/// The word of an operator who is on and of a ride that is in. Every other word is off, or out.
+pub const PRESENT: u16 = 1;
 
 /// The largest revision of a valid message.
 const LAST_REVISION: u16 = 255;
 
-/// Message: kind 1 is a grant, 2 a withdrawal.
+/// Message. A kind from 3 to 6 leaves one of operator and ride unused.
 #[derive(Clone, Copy, Debug, PartialEq, Eq)]
 #[repr(C)]
 pub struct Message {
@@ -135,9 +184,14 @@ impl Head {
         operator as usize * self.rides as usize + ride as usize
     }
 
-    /// The words of one index row, and the marks: an operator or a ride each.
+    /// The words of one index row, the marks and the places of each part of presence: an operator or a ride each.
     pub fn nodes(self) -> usize {
         self.operators as usize + self.rides as usize
+    }
+
+    /// Where a ride is among operators and rides.
+    pub fn ride_node(self, ride: u16) -> usize {
+        self.operators as usize + ride as usize
     }
 
     /// The words of the index.
@@ -147,8 +201,17 @@ impl Head {
 
     /// The places that each part needs.
     pub fn lengths(self) -> Lengths {
-        let places = self.places();
-        Parts { operators: places, rides: places, stamps: places, revisions: places, index: self.words() }
+        let (places, nodes) = (self.places(), self.nodes());
+        Parts {
+            operators: places,
+            rides: places,
+            stamps: places,
+            revisions: places,
+            index: self.words(),
+            presence_stamps: nodes,
+            presence_revisions: nodes,
+            presence: nodes,
+        }
     }
 }
 
@@ -164,13 +227,8 @@ fn first_of(tests: &[(u16, &dyn Fn() -> bool)]) -> u16 {
 
 /// Number 3 of a board: a part is shorter than needed.
 fn is_short(head: Head, parts: &Slices) -> bool {
-    let Parts { operators, rides, stamps, revisions, index } = parts;
-    let needed = head.lengths();
-    operators.len() < needed.operators
-        || rides.len() < needed.rides
-        || stamps.len() < needed.stamps
-        || revisions.len() < needed.revisions
-        || index.len() < needed.index
+    let needed = head.lengths().list();
+    parts.lengths().list().iter().zip(needed).any(|(length, needed)| *length < needed)
 }
 
 /// Number 5: one of the listed pairs is out of range, or they are not strictly ascending.
@@ -221,32 +279,50 @@ impl Set {
     }
 }
 
-/// Who is cleared for what: for each operator its rides, and for each ride its operators.
-struct Clearances {
+/// Document 02: a pair counts if it is listed, its operator is on and its ride is in. For each operator the rides, and for
+/// each ride the operators, of the pairs that count.
+struct Counting {
+    on: Set,
+    in_service: Set,
     rides_of: Vec<Set>,
     operators_of: Vec<Set>,
 }
 
-impl Clearances {
-    fn new(head: Head, pairs: &Pairs) -> Self {
+impl Counting {
+    fn new(head: Head, pairs: &Pairs, presence: &[u16]) -> Self {
+        let is_on = |o: u16| presence[o as usize] == PRESENT;
+        let is_in = |r: u16| presence[head.ride_node(r)] == PRESENT;
+        let pairs: Pairs = pairs.iter().copied().filter(|&(o, r)| is_on(o) && is_in(r)).collect();
         let rides_of = |o: u16| Set::of(pairs.iter().filter(|pair| pair.0 == o).map(|pair| pair.1 as usize));
         let operators_of = |r: u16| Set::of(pairs.iter().filter(|pair| pair.1 == r).map(|pair| pair.0 as usize));
-        Clearances {
+        Counting {
+            on: Set::of((0..head.operators).filter(|o| is_on(*o)).map(usize::from)),
+            in_service: Set::of((0..head.rides).filter(|r| is_in(*r)).map(usize::from)),
             rides_of: (0..head.operators).map(rides_of).collect(),
             operators_of: (0..head.rides).map(operators_of).collect(),
         }
     }
+
+    /// Whether an operator falls short of alpha among these rides. One who is off falls short of every limit.
+    fn operator_falls_short(&self, operator: usize, rides: Set, alpha: usize) -> bool {
+        !self.on.has(operator) || self.rides_of[operator].common(rides) < alpha
+    }
+
+    /// Whether a ride falls short of beta among these operators. One that is out falls short of every limit.
+    fn ride_falls_short(&self, ride: usize, operators: Set, beta: usize) -> bool {
+        !self.in_service.has(ride) || self.operators_of[ride].common(operators) < beta
+    }
 }
 
-/// Definition 2.1, for limits from 0: the largest set where each operator has at least alpha rides of the set, and each
-/// ride at least beta operators of it. Whoever falls short goes, again and again, until nobody does.
-fn core(clearances: &Clearances, alpha: usize, beta: usize) -> (Set, Set) {
-    let mut operators = Set::of(0..clearances.rides_of.len());
-    let mut rides = Set::of(0..clearances.operators_of.len());
+/// Definition 2.1, for limits from 0: the largest set where each operator is on and has at least alpha rides of the set,
+/// and each ride is in and has at least beta operators of it. Whoever falls short goes, again and again, until nobody does.
+fn core(counting: &Counting, alpha: usize, beta: usize) -> (Set, Set) {
+    let mut operators = Set::of(0..counting.rides_of.len());
+    let mut rides = Set::of(0..counting.operators_of.len());
     loop {
         let left = (
-            Set::of(operators.numbers().filter(|&o| clearances.rides_of[o].common(rides) >= alpha)),
-            Set::of(rides.numbers().filter(|&r| clearances.operators_of[r].common(operators) >= beta)),
+            Set::of(operators.numbers().filter(|&o| !counting.operator_falls_short(o, rides, alpha))),
+            Set::of(rides.numbers().filter(|&r| !counting.ride_falls_short(r, operators, beta))),
         );
         if left == (operators, rides) {
             return left;
@@ -257,12 +333,12 @@ fn core(clearances: &Clearances, alpha: usize, beta: usize) -> (Set, Set) {
 
 /// Row alpha, for an alpha from 1: the level of each operator, then of each ride, the largest beta from 1 whose cover
 /// (alpha, beta) holds it, or 0 if none does. Where a cover is empty, so is that of each larger beta.
-fn row(clearances: &Clearances, alpha: usize) -> Vec<u16> {
-    assert!(alpha >= 1, "cover (0, beta) holds every operator, whatever beta is");
-    let mut operators = vec![0; clearances.rides_of.len()];
-    let mut rides = vec![0; clearances.operators_of.len()];
+fn row(counting: &Counting, alpha: usize) -> Vec<u16> {
+    assert!(alpha >= 1, "cover (0, beta) holds every operator who is on, whatever beta is");
+    let mut operators = vec![0; counting.rides_of.len()];
+    let mut rides = vec![0; counting.operators_of.len()];
     for beta in 1.. {
-        let set = core(clearances, alpha, beta);
+        let set = core(counting, alpha, beta);
         if set.0.is_empty() && set.1.is_empty() {
             break;
         }
@@ -274,9 +350,9 @@ fn row(clearances: &Clearances, alpha: usize) -> Vec<u16> {
 }
 
 /// The index: row 1 to row rides.
-fn index_of(head: Head, pairs: &Pairs) -> Vec<u16> {
-    let clearances = Clearances::new(head, pairs);
-    (1..=head.rides as usize).flat_map(|alpha| row(&clearances, alpha)).collect()
+fn index_of(head: Head, pairs: &Pairs, presence: &[u16]) -> Vec<u16> {
+    let counting = Counting::new(head, pairs, presence);
+    (1..=head.rides as usize).flat_map(|alpha| row(&counting, alpha)).collect()
 }
 
 /// Writes the pairs in ascending order, and zeros from there to the arrays' end.
@@ -309,38 +385,43 @@ pub fn build(head: Head, parts: &mut Slices, start: u32) -> u16 {
         parts.stamps[head.place(operator, ride)] = start;
     }
     parts.revisions[..head.places()].fill(0);
-    parts.index[..head.words()].copy_from_slice(&index_of(head, &pairs));
+    parts.presence_stamps[..head.nodes()].fill(0);
+    parts.presence_revisions[..head.nodes()].fill(0);
+    parts.presence[..head.nodes()].fill(PRESENT);
+    parts.index[..head.words()].copy_from_slice(&index_of(head, &pairs, parts.presence));
     0
 }
 
-/// Marks by the words of the index, whatever they are. Documents 01 and 02: with alpha 0 all operators are in, and a
-/// ride by its row 1 level; with beta 0 all rides are in, and an operator if its row alpha level is at least 1.
-pub fn query(head: Head, index: &[u16], alpha: u16, beta: u16, marks: &mut [u16]) -> Counts {
+/// Marks by the words of the index, whatever they are, and nobody who is off or out. Documents 01 and 02: with alpha 0 all
+/// operators are in, and a ride by its row 1 level; with beta 0 all rides are in, and an operator if its row alpha level is
+/// at least 1.
+pub fn query(head: Head, index: &[u16], presence: &[u16], alpha: u16, beta: u16, marks: &mut [u16]) -> Counts {
+    let (words, nodes) = (head.words(), head.nodes());
     let code = first_of(&[
         (1, &|| head.operators > 200),
         (2, &|| head.rides > 60),
-        (3, &|| index.len() < head.words() || marks.len() < head.nodes()),
+        (3, &|| index.len() < words || presence.len() < nodes || marks.len() < nodes),
     ]);
     if code != 0 {
         return Counts { code, operators: 0, rides: 0 };
     }
-    let (operators, rides) = marks[..head.nodes()].split_at_mut(head.operators as usize);
+    let (operators, rides) = marks[..nodes].split_at_mut(head.operators as usize);
     for (o, mark) in operators.iter_mut().enumerate() {
         let is_in = match (alpha, beta) {
             (0, _) => true,
             (_, 0) => indexed(head, index, alpha, o) >= 1,
             _ => indexed(head, index, alpha, o) >= beta,
         };
-        *mark = is_in as u16;
+        *mark = (is_in && presence[o] == PRESENT) as u16;
     }
     for (r, mark) in rides.iter_mut().enumerate() {
-        let node = head.operators as usize + r;
+        let node = head.ride_node(r as u16);
         let is_in = match (alpha, beta) {
             (_, 0) => true,
             (0, _) => indexed(head, index, 1, node) >= beta,
             _ => indexed(head, index, alpha, node) >= beta,
         };
-        *mark = is_in as u16;
+        *mark = (is_in && presence[node] == PRESENT) as u16;
     }
     Counts { code: 0, operators: operators.iter().sum(), rides: rides.iter().sum() }
 }
@@ -354,30 +435,33 @@ fn indexed(head: Head, index: &[u16], alpha: u16, node: usize) -> u16 {
     }
 }
 
+#[allow(clippy::too_many_arguments)]
 pub fn peel(
     head: Head,
     operators: &[u16],
     rides: &[u16],
+    presence: &[u16],
     marks: &mut [u16],
     alpha: u16,
     beta: u16,
     steps: u16,
 ) -> Peeled {
+    let (places, nodes) = (head.places(), head.nodes());
     let code = first_of(&[
         (1, &|| head.operators > 200),
         (2, &|| head.rides > 60),
-        (3, &|| operators.len() < head.places() || rides.len() < head.places() || marks.len() < head.nodes()),
-        (4, &|| head.pairs as usize > head.places()),
+        (3, &|| operators.len() < places || rides.len() < places || presence.len() < nodes || marks.len() < nodes),
+        (4, &|| head.pairs as usize > places),
         (5, &|| disordered(head, operators, rides)),
-        (12, &|| marks[..head.nodes()].iter().any(|mark| *mark > 1)),
+        (12, &|| marks[..nodes].iter().any(|mark| *mark > 1)),
     ]);
     if code != 0 {
         return Peeled { code, settled: 0, steps: 0 };
     }
-    let clearances = Clearances::new(head, &listed(head, operators, rides));
+    let counting = Counting::new(head, &listed(head, operators, rides), presence);
     let mut taken = 0;
     loop {
-        match first_short(head, &clearances, marks, alpha as usize, beta as usize) {
+        match first_short(head, &counting, marks, alpha as usize, beta as usize) {
             None => return Peeled { code: 0, settled: 1, steps: taken },
             Some(_) if taken == steps => return Peeled { code: 0, settled: 0, steps: taken },
             Some(place) => marks[place] = 0,
@@ -386,14 +470,14 @@ pub fn peel(
     }
 }
 
-/// The place in the marks of the lowest-numbered marked operator with fewer than alpha marked rides; if there is none,
-/// of the lowest-numbered marked ride with fewer than beta marked operators.
-fn first_short(head: Head, clearances: &Clearances, marks: &[u16], alpha: usize, beta: usize) -> Option<usize> {
+/// The place in the marks of the lowest-numbered marked operator that falls short among the marked rides; if there is
+/// none, of the lowest-numbered marked ride that falls short among the marked operators.
+fn first_short(head: Head, counting: &Counting, marks: &[u16], alpha: usize, beta: usize) -> Option<usize> {
     let (n, m) = (head.operators as usize, head.rides as usize);
     let operators = Set::of((0..n).filter(|&o| marks[o] == 1));
     let rides = Set::of((0..m).filter(|&r| marks[n + r] == 1));
-    let operator = operators.numbers().find(|&o| clearances.rides_of[o].common(rides) < alpha);
-    let ride = rides.numbers().find(|&r| clearances.operators_of[r].common(operators) < beta);
+    let operator = operators.numbers().find(|&o| counting.operator_falls_short(o, rides, alpha));
+    let ride = rides.numbers().find(|&r| counting.ride_falls_short(r, operators, beta));
     operator.or(ride.map(|r| n + r))
 }
 
@@ -410,53 +494,129 @@ fn board_refusal(head: Head, parts: &Slices, others_short: bool) -> u16 {
     ])
 }
 
-pub fn message(head: &mut Head, parts: &mut Slices, message: Message) -> Answer {
-    let sizes = *head;
-    let refusal = board_refusal(sizes, parts, false);
-    let pair = (message.operator, message.ride);
-    let place = sizes.place(message.operator, message.ride);
-    let code = first_of(&[
-        (refusal, &|| refusal != 0),
-        (7, &|| message.kind != GRANT && message.kind != WITHDRAWAL),
-        (8, &|| message.operator >= sizes.operators || message.ride >= sizes.rides),
-        (9, &|| message.stamp == 0),
-        (14, &|| message.revision > LAST_REVISION),
-        (10, &|| {
-            let is_listed = listed(sizes, parts.operators, parts.rides).contains(&pair);
-            let kind = if is_listed { GRANT } else { WITHDRAWAL };
-            let last = Message { kind, revision: parts.revisions[place], stamp: parts.stamps[place], ..message };
-            !is_later(message, last)
-        }),
-    ]);
-    if code != 0 {
-        return Answer { code, differ: 0 };
-    }
-    let mut pairs = listed(sizes, parts.operators, parts.rides);
-    if message.kind == GRANT {
-        pairs.insert(pair);
-    } else {
-        pairs.remove(&pair);
-    }
-    parts.stamps[place] = message.stamp;
-    parts.revisions[place] = message.revision;
-    write_pairs(sizes, &pairs, parts);
-    head.pairs = pairs.len() as u16;
-    let levels = index_of(sizes, &pairs);
-    let differ = levels.iter().zip(&*parts.index).filter(|(new, old)| new != old).count() as u16;
-    parts.index[..sizes.words()].copy_from_slice(&levels);
-    Answer { code: 0, differ }
+/// What a message speaks of.
+enum Subject {
+    Pair(u16, u16),
+    Operator(u16),
+    Ride(u16),
 }
 
-/// Of two messages for one pair: the first is later than the second. The larger stamp is later; at equal stamps the
-/// larger revision; at both equal a withdrawal is later than a grant.
-fn is_later(first: Message, second: Message) -> bool {
+impl Message {
+    /// What a message of a kind from 1 to 6 speaks of.
+    fn subject(self) -> Subject {
+        match self.kind {
+            GRANT | WITHDRAWAL => Subject::Pair(self.operator, self.ride),
+            OPERATOR_ON | OPERATOR_OFF => Subject::Operator(self.operator),
+            RIDE_IN | RIDE_OUT => Subject::Ride(self.ride),
+            kind => unreachable!("kind {kind} gets 7"),
+        }
+    }
+
+    /// Number 8: what the message speaks of is out of range. A field that its kind doesn't use isn't read.
+    fn is_out_of_range(self, head: Head) -> bool {
+        match self.subject() {
+            Subject::Pair(operator, ride) => operator >= head.operators || ride >= head.rides,
+            Subject::Operator(operator) => operator >= head.operators,
+            Subject::Ride(ride) => ride >= head.rides,
+        }
+    }
+
+    /// Number 15: the field that the message's kind doesn't use isn't 0.
+    fn has_unused_field(self) -> bool {
+        match self.subject() {
+            Subject::Pair(..) => false,
+            Subject::Operator(_) => self.ride != 0,
+            Subject::Ride(_) => self.operator != 0,
+        }
+    }
+
+    fn entry(self) -> Entry {
+        let gives = matches!(self.kind, GRANT | OPERATOR_ON | RIDE_IN);
+        Entry { stamp: self.stamp, revision: self.revision, gives }
+    }
+}
+
+/// What a pair, an operator or a ride has of its last message: stamp and revision, and whether the pair is listed, the
+/// operator on or the ride in.
+#[derive(Clone, Copy)]
+struct Entry {
+    stamp: u32,
+    revision: u16,
+    gives: bool,
+}
+
+/// Of two messages for one pair, operator or ride: the first is later than the second. The larger stamp is later; at equal
+/// stamps the larger revision; at both equal a withdrawal is later than a grant, off than on, and out than in.
+fn is_later(first: Entry, second: Entry) -> bool {
     if first.stamp != second.stamp {
         return first.stamp > second.stamp;
     }
     if first.revision != second.revision {
         return first.revision > second.revision;
     }
-    first.kind == WITHDRAWAL && second.kind == GRANT
+    !first.gives && second.gives
+}
+
+/// The last that an accepted board has of a pair, an operator or a ride.
+fn last_of(head: Head, parts: &Slices, subject: Subject) -> Entry {
+    let of_node = |node: usize| Entry {
+        stamp: parts.presence_stamps[node],
+        revision: parts.presence_revisions[node],
+        gives: parts.presence[node] == PRESENT,
+    };
+    match subject {
+        Subject::Pair(operator, ride) => {
+            let place = head.place(operator, ride);
+            let gives = listed(head, parts.operators, parts.rides).contains(&(operator, ride));
+            Entry { stamp: parts.stamps[place], revision: parts.revisions[place], gives }
+        }
+        Subject::Operator(operator) => of_node(operator as usize),
+        Subject::Ride(ride) => of_node(head.ride_node(ride)),
+    }
+}
+
+pub fn message(head: &mut Head, parts: &mut Slices, message: Message) -> Answer {
+    let sizes = *head;
+    let refusal = board_refusal(sizes, parts, false);
+    let code = first_of(&[
+        (refusal, &|| refusal != 0),
+        (7, &|| !(GRANT..=RIDE_OUT).contains(&message.kind)),
+        (8, &|| message.is_out_of_range(sizes)),
+        (9, &|| message.stamp == 0),
+        (14, &|| message.revision > LAST_REVISION),
+        (15, &|| message.has_unused_field()),
+        (10, &|| !is_later(message.entry(), last_of(sizes, parts, message.subject()))),
+    ]);
+    if code != 0 {
+        return Answer { code, differ: 0 };
+    }
+    let mut pairs = listed(sizes, parts.operators, parts.rides);
+    match message.subject() {
+        Subject::Pair(operator, ride) => {
+            if message.entry().gives {
+                pairs.insert((operator, ride));
+            } else {
+                pairs.remove(&(operator, ride));
+            }
+            let place = sizes.place(operator, ride);
+            (parts.stamps[place], parts.revisions[place]) = (message.stamp, message.revision);
+        }
+        Subject::Operator(operator) => store_presence(parts, operator as usize, message.entry()),
+        Subject::Ride(ride) => store_presence(parts, sizes.ride_node(ride), message.entry()),
+    }
+    write_pairs(sizes, &pairs, parts);
+    head.pairs = pairs.len() as u16;
+    let levels = index_of(sizes, &pairs, parts.presence);
+    let differ = levels.iter().zip(&*parts.index).filter(|(new, old)| new != old).count() as u16;
+    parts.index[..sizes.words()].copy_from_slice(&levels);
+    Answer { code: 0, differ }
+}
+
+/// Stores what a taken message says of an operator or ride.
+fn store_presence(parts: &mut Slices, node: usize, entry: Entry) {
+    parts.presence_stamps[node] = entry.stamp;
+    parts.presence_revisions[node] = entry.revision;
+    parts.presence[node] = if entry.gives { PRESENT } else { 0 };
 }
 
 pub fn messages(head: &mut Head, parts: &mut Slices, messages: &[Message], answers: &mut [u16]) -> u16 {
@@ -488,15 +648,13 @@ pub fn preview(head: Head, parts: &Views, one: Message, spare_head: &mut Head, s
 
 /// Writes every word of a board, to the places that each part needs.
 fn write_board(head: Head, board: &Vectors, parts: &mut Slices) {
-    let needed = head.lengths();
-    parts.operators[..needed.operators].copy_from_slice(&board.operators[..needed.operators]);
-    parts.rides[..needed.rides].copy_from_slice(&board.rides[..needed.rides]);
-    parts.stamps[..needed.stamps].copy_from_slice(&board.stamps[..needed.stamps]);
-    parts.revisions[..needed.revisions].copy_from_slice(&board.revisions[..needed.revisions]);
-    parts.index[..needed.index].copy_from_slice(&board.index[..needed.index]);
+    parts.each_mut().zip(board.first(head.lengths())).map(
+        |(part, words)| part[..words.len()].copy_from_slice(words),
+        |(part, stamps)| part[..stamps.len()].copy_from_slice(stamps),
+    );
 }
 
-/// The program `cover`: from its whole input to its whole output.
+/// The program `cover`: from its whole input to its whole output. Everybody is on and in.
 pub fn cover(input: &[u8]) -> Vec<u8> {
     let mut output = Vec::new();
     match cover_checked(input, &mut output) {
@@ -525,10 +683,10 @@ fn cover_checked(input: &[u8], output: &mut Vec<u8>) -> u16 {
         return code;
     }
     let (alpha, beta) = (word(3 + 2 * pairs), word(4 + 2 * pairs));
-    let clearances = Clearances::new(head, &listed(head, &operators(), &rides()));
-    let (operators, rides) = core(&clearances, alpha as usize, beta as usize);
+    let counting = Counting::new(head, &listed(head, &operators(), &rides()), &vec![PRESENT; head.nodes()]);
+    let (operators, rides) = core(&counting, alpha as usize, beta as usize);
     // For alpha 0 those of row 1. Past the last row of the index they are all 0.
-    let levels = row(&clearances, alpha.max(1) as usize);
+    let levels = row(&counting, alpha.max(1) as usize);
     writeln!(output, "cover {alpha} {beta} {} {}", operators.numbers().count(), rides.numbers().count()).unwrap();
     for number in operators.numbers() {
         writeln!(output, "operator {number} {}", levels[number]).unwrap();

@@ -21,21 +21,31 @@ pub struct Head {
 pub const GRANT: u16 = 1;
 /// The kind of a message that takes a clearance away.
 pub const WITHDRAWAL: u16 = 2;
+/// The kind of a message that an operator has come on shift.
+pub const OPERATOR_ON: u16 = 3;
+/// The kind of a message that an operator has gone off shift.
+pub const OPERATOR_OFF: u16 = 4;
+/// The kind of a message that a ride has come into service.
+pub const RIDE_IN: u16 = 5;
+/// The kind of a message that a ride has gone out of service.
+pub const RIDE_OUT: u16 = 6;
 
-/// Message: a grant or a withdrawal of one pair. The kind is a number, since a radio can send any.
+/// Message: for one pair a grant or a withdrawal; for one operator on or off; for one ride in or out. The kind is a number,
+/// since a radio can send any.
 #[derive(Clone, Copy, Debug, Default, PartialEq, Eq)]
 #[repr(C)]
 pub struct Message {
-    /// [`GRANT`] or [`WITHDRAWAL`]; any other is refused with 7.
+    /// [`GRANT`] or [`WITHDRAWAL`], [`OPERATOR_ON`] or [`OPERATOR_OFF`], [`RIDE_IN`] or [`RIDE_OUT`]; any other is refused
+    /// with 7.
     pub kind: u16,
-    /// The pair's operator, below the head's operators.
+    /// The operator, below the head's operators. A message for a ride does not use it, and has 0 here, else 15.
     pub operator: u16,
-    /// The pair's ride, below the head's rides.
+    /// The ride, below the head's rides. A message for an operator does not use it, and has 0 here, else 15.
     pub ride: u16,
     /// Which correction within its stamp it is, up to 255: at equal stamps the later has the larger revision. At both equal
-    /// a withdrawal is later than a grant.
+    /// a withdrawal is later than a grant, off later than on, and out later than in.
     pub revision: u16,
-    /// When it was sent, from 1: of two messages for one pair the later has the larger stamp.
+    /// When it was sent, from 1: of two messages for one pair, operator or ride the later has the larger stamp.
     pub stamp: u32,
 }
 
@@ -48,6 +58,26 @@ impl Message {
     /// A withdrawal of a pair, sent at `stamp`, with revision 0.
     pub const fn withdrawal(operator: u16, ride: u16, stamp: u32) -> Message {
         Message { kind: WITHDRAWAL, operator, ride, revision: 0, stamp }
+    }
+
+    /// An operator on shift, sent at `stamp`, with revision 0.
+    pub const fn operator_on(operator: u16, stamp: u32) -> Message {
+        Message { kind: OPERATOR_ON, operator, ride: 0, revision: 0, stamp }
+    }
+
+    /// An operator off shift, sent at `stamp`, with revision 0.
+    pub const fn operator_off(operator: u16, stamp: u32) -> Message {
+        Message { kind: OPERATOR_OFF, operator, ride: 0, revision: 0, stamp }
+    }
+
+    /// A ride in service, sent at `stamp`, with revision 0.
+    pub const fn ride_in(ride: u16, stamp: u32) -> Message {
+        Message { kind: RIDE_IN, operator: 0, ride, revision: 0, stamp }
+    }
+
+    /// A ride out of service, sent at `stamp`, with revision 0.
+    pub const fn ride_out(ride: u16, stamp: u32) -> Message {
+        Message { kind: RIDE_OUT, operator: 0, ride, revision: 0, stamp }
     }
 
     /// The message with another revision.
@@ -76,7 +106,8 @@ pub struct Peeled {
 }
 
 /// Build: zeroes the tails of the pair arrays and the revisions, sets the stamps of listed pairs to `start` and the others
-/// to 0, and fills the index.
+/// to 0, sets every operator on and every ride in, with stamp and revision 0, and fills the index.
+#[allow(clippy::too_many_arguments)]
 pub fn build(
     head: Head,
     operators: &mut [u16],
@@ -85,6 +116,9 @@ pub fn build(
     stamps: &mut [u32],
     revisions: &mut [u16],
     index: &mut [u16],
+    presence_stamps: &mut [u32],
+    presence_revisions: &mut [u16],
+    presence: &mut [u16],
 ) -> Result<(), Refusal> {
     Refusal::check(unsafe {
         exported::board_build(
@@ -100,26 +134,56 @@ pub fn build(
             revisions.len(),
             index.as_mut_ptr(),
             index.len(),
+            presence_stamps.as_mut_ptr(),
+            presence_stamps.len(),
+            presence_revisions.as_mut_ptr(),
+            presence_revisions.len(),
+            presence.as_mut_ptr(),
+            presence.len(),
         )
     })
 }
 
-/// Query: marks who is in cover (alpha, beta), and counts them. A limit of 0 is no limit: alpha 0 marks every operator, and
-/// beta 0 every ride, also one that no operator is cleared for. A dispatch permit needs a beta from 1.
-pub fn query(head: Head, index: &[u16], alpha: u16, beta: u16, marks: &mut [u16]) -> Result<Counts, Refusal> {
+/// Query: marks who is in cover (alpha, beta), and counts them. Nobody who is off or out by the presence words is marked. A
+/// limit of 0 is no limit: alpha 0 marks every operator who is on, and beta 0 every ride that is in, also one that no
+/// operator is cleared for. A dispatch permit needs a beta from 1.
+///
+/// Index and presence words are those of one board, as its last build or message left them. With words of another board
+/// the marks are no cover.
+pub fn query(
+    head: Head,
+    index: &[u16],
+    presence: &[u16],
+    alpha: u16,
+    beta: u16,
+    marks: &mut [u16],
+) -> Result<Counts, Refusal> {
     let counts = unsafe {
-        exported::board_query(head, index.as_ptr(), index.len(), alpha, beta, marks.as_mut_ptr(), marks.len())
+        exported::board_query(
+            head,
+            index.as_ptr(),
+            index.len(),
+            presence.as_ptr(),
+            presence.len(),
+            alpha,
+            beta,
+            marks.as_mut_ptr(),
+            marks.len(),
+        )
     };
     Refusal::check(counts.code)?;
     Ok(Counts { operators: counts.operators, rides: counts.rides })
 }
 
 /// Peel: clears the marks of those that fall short, the lowest-numbered operator first, then rides, in at most `steps`
-/// steps. Nobody falls short of a limit of 0, so that a dispatch permit needs a beta from 1.
+/// steps. Whoever is off or out by the presence words falls short of every limit, and takes a step too. Nobody else falls
+/// short of a limit of 0, so that a dispatch permit needs a beta from 1.
+#[allow(clippy::too_many_arguments)]
 pub fn peel(
     head: Head,
     operators: &[u16],
     rides: &[u16],
+    presence: &[u16],
     marks: &mut [u16],
     alpha: u16,
     beta: u16,
@@ -132,6 +196,8 @@ pub fn peel(
             operators.len(),
             rides.as_ptr(),
             rides.len(),
+            presence.as_ptr(),
+            presence.len(),
             marks.as_mut_ptr(),
             marks.len(),
             alpha,
@@ -143,8 +209,9 @@ pub fn peel(
     Ok(Peeled { settled: peeled.settled == 1, steps: peeled.steps })
 }
 
-/// Message: takes one message, if it is later than its pair's last; the number of index words that differ before and
-/// after.
+/// Message: takes one message, if it is later than the last of its pair, operator or ride; the number of index words that
+/// differ before and after.
+#[allow(clippy::too_many_arguments)]
 pub fn message(
     head: &mut Head,
     operators: &mut [u16],
@@ -152,6 +219,9 @@ pub fn message(
     stamps: &mut [u32],
     revisions: &mut [u16],
     index: &mut [u16],
+    presence_stamps: &mut [u32],
+    presence_revisions: &mut [u16],
+    presence: &mut [u16],
     message: Message,
 ) -> Result<u16, Refusal> {
     let answer = unsafe {
@@ -167,6 +237,12 @@ pub fn message(
             revisions.len(),
             index.as_mut_ptr(),
             index.len(),
+            presence_stamps.as_mut_ptr(),
+            presence_stamps.len(),
+            presence_revisions.as_mut_ptr(),
+            presence_revisions.len(),
+            presence.as_mut_ptr(),
+            presence.len(),
             message,
         )
     };
@@ -184,6 +260,9 @@ pub fn messages<'a>(
     stamps: &mut [u32],
     revisions: &mut [u16],
     index: &mut [u16],
+    presence_stamps: &mut [u32],
+    presence_revisions: &mut [u16],
+    presence: &mut [u16],
     messages: &[Message],
     answers: &'a mut [u16],
 ) -> Result<Answers<'a>, Refusal> {
@@ -200,6 +279,12 @@ pub fn messages<'a>(
             revisions.len(),
             index.as_mut_ptr(),
             index.len(),
+            presence_stamps.as_mut_ptr(),
+            presence_stamps.len(),
+            presence_revisions.as_mut_ptr(),
+            presence_revisions.len(),
+            presence.as_mut_ptr(),
+            presence.len(),
             messages.as_ptr(),
             messages.len(),
             answers.as_mut_ptr(),
@@ -222,6 +307,9 @@ pub fn preview(
     stamps: &[u32],
     revisions: &[u16],
     index: &[u16],
+    presence_stamps: &[u32],
+    presence_revisions: &[u16],
+    presence: &[u16],
     message: Message,
     spare_head: &mut Head,
     spare_operators: &mut [u16],
@@ -229,6 +317,9 @@ pub fn preview(
     spare_stamps: &mut [u32],
     spare_revisions: &mut [u16],
     spare_index: &mut [u16],
+    spare_presence_stamps: &mut [u32],
+    spare_presence_revisions: &mut [u16],
+    spare_presence: &mut [u16],
 ) -> Result<u16, Refusal> {
     let answer = unsafe {
         exported::board_preview(
@@ -243,6 +334,12 @@ pub fn preview(
             revisions.len(),
             index.as_ptr(),
             index.len(),
+            presence_stamps.as_ptr(),
+            presence_stamps.len(),
+            presence_revisions.as_ptr(),
+            presence_revisions.len(),
+            presence.as_ptr(),
+            presence.len(),
             message,
             spare_head,
             spare_operators.as_mut_ptr(),
@@ -255,6 +352,12 @@ pub fn preview(
             spare_revisions.len(),
             spare_index.as_mut_ptr(),
             spare_index.len(),
+            spare_presence_stamps.as_mut_ptr(),
+            spare_presence_stamps.len(),
+            spare_presence_revisions.as_mut_ptr(),
+            spare_presence_revisions.len(),
+            spare_presence.as_mut_ptr(),
+            spare_presence.len(),
         )
     };
     Refusal::check(answer.code)?;

@@ -1,7 +1,7 @@
 //! A board over memory that the caller lends for as long as the board lives.
 
 use crate::{build, index_places, mark_places, message, messages, pair_places, peel, preview, query};
-use crate::{Answers, Counts, Head, Message, Peeled, Refusal, OPERATORS_MOST, RIDES_MOST};
+use crate::{Answers, Counts, Head, Message, Peeled, Refusal, OPERATORS_MOST, PRESENT, RIDES_MOST};
 
 const PAIR_PLACES: usize = pair_places(OPERATORS_MOST, RIDES_MOST);
 const INDEX_PLACES: usize = index_places(OPERATORS_MOST, RIDES_MOST);
@@ -20,21 +20,28 @@ pub struct Parts<'m> {
     pub revisions: &'m mut [u16],
     /// The levels, [`index_places`] long.
     pub index: &'m mut [u16],
+    /// The presence stamp of each operator and each ride, [`mark_places`] long.
+    pub presence_stamps: &'m mut [u32],
+    /// The presence revision of each operator and each ride, [`mark_places`] long.
+    pub presence_revisions: &'m mut [u16],
+    /// The presence word of each operator and each ride, [`mark_places`] long.
+    pub presence: &'m mut [u16],
 }
 
 impl Parts<'_> {
     /// The lowest number that a build of these pairs gives. The exported build reads the pairs in the pair arrays; this
     /// one reads them before they are written there.
     fn check_build(&self, operators: u16, rides: u16, pairs: &[(u16, u16)], start: u32) -> Result<(), Refusal> {
-        let places = pair_places(operators, rides);
+        let (places, nodes) = (pair_places(operators, rides), mark_places(operators, rides));
         let shortest = self.operators.len().min(self.rides.len()).min(self.stamps.len()).min(self.revisions.len());
+        let shortest_of_nodes = self.presence_stamps.len().min(self.presence_revisions.len()).min(self.presence.len());
         if OPERATORS_MOST < operators {
             return Err(Refusal::OperatorsOver);
         }
         if RIDES_MOST < rides {
             return Err(Refusal::RidesOver);
         }
-        if shortest < places || self.index.len() < index_places(operators, rides) {
+        if shortest < places || shortest_of_nodes < nodes || self.index.len() < index_places(operators, rides) {
             return Err(Refusal::PartShort);
         }
         if places < pairs.len() {
@@ -58,6 +65,9 @@ pub struct Memory {
     stamps: [u32; PAIR_PLACES],
     revisions: [u16; PAIR_PLACES],
     index: [u16; INDEX_PLACES],
+    presence_stamps: [u32; MARK_PLACES],
+    presence_revisions: [u16; MARK_PLACES],
+    presence: [u16; MARK_PLACES],
 }
 
 impl Memory {
@@ -69,6 +79,9 @@ impl Memory {
             stamps: [0; PAIR_PLACES],
             revisions: [0; PAIR_PLACES],
             index: [0; INDEX_PLACES],
+            presence_stamps: [0; MARK_PLACES],
+            presence_revisions: [0; MARK_PLACES],
+            presence: [0; MARK_PLACES],
         }
     }
 
@@ -80,6 +93,9 @@ impl Memory {
             stamps: &mut self.stamps,
             revisions: &mut self.revisions,
             index: &mut self.index,
+            presence_stamps: &mut self.presence_stamps,
+            presence_revisions: &mut self.presence_revisions,
+            presence: &mut self.presence,
         }
     }
 }
@@ -103,6 +119,23 @@ pub struct Words<'b> {
     pub revisions: &'b [u16],
     /// The levels.
     pub index: &'b [u16],
+    /// The presence stamp of each operator, then each ride.
+    pub presence_stamps: &'b [u32],
+    /// The presence revision of each operator, then each ride.
+    pub presence_revisions: &'b [u16],
+    /// The presence word of each operator, then each ride: [`PRESENT`] for on or in, any other for off or out.
+    pub presence: &'b [u16],
+}
+
+/// What a board has of an operator's or a ride's presence.
+#[derive(Clone, Copy, Debug, PartialEq, Eq)]
+pub struct Presence {
+    /// Whether the operator is on, or the ride in: its word is [`PRESENT`].
+    pub present: bool,
+    /// The stamp of its last message, 0 where none was heard of.
+    pub stamp: u32,
+    /// The revision of its last message, 0 where none was heard of.
+    pub revision: u16,
 }
 
 /// A board in lent memory. While it lives its own calls alone write that memory, so that of 1 to 6 only an argument of
@@ -115,7 +148,7 @@ pub struct Board<'m> {
 
 impl<'m> Board<'m> {
     /// Builds a board of these pairs, strictly ascending by operator and then ride, in lent memory. They count as granted
-    /// at the stamp `start`, from 1, with revision 0.
+    /// at the stamp `start`, from 1, with revision 0. Every operator is on and every ride in.
     ///
     /// Refuses with 1 to 5 and 9. A board that stood in the memory is then as it was, and [`Board::attach`] takes it up.
     pub fn build(
@@ -130,16 +163,27 @@ impl<'m> Board<'m> {
         for (place, pair) in pairs.iter().enumerate() {
             (parts.operators[place], parts.rides[place]) = *pair;
         }
-        build(head, parts.operators, parts.rides, start, parts.stamps, parts.revisions, parts.index)?;
+        build(
+            head,
+            parts.operators,
+            parts.rides,
+            start,
+            parts.stamps,
+            parts.revisions,
+            parts.index,
+            parts.presence_stamps,
+            parts.presence_revisions,
+            parts.presence,
+        )?;
         Ok(Board { head, parts })
     }
 
     /// Takes up the board that stands in lent memory, as after a restart, with the head that was stored beside it.
     /// Writes nothing.
     ///
-    /// Refuses with 1 to 6. They say nothing of the index, nor of a stamp that is not 0, nor of a revision. A damaged index
-    /// gives wrong covers until a taken message fills it anew; a [`peel`](Board::peel) from all ones finds a cover without
-    /// it.
+    /// Refuses with 1 to 6. They say nothing of the index, nor of a stamp that is not 0, nor of a revision, nor of presence:
+    /// whoever's word is not [`PRESENT`] is off or out. A damaged index gives wrong covers until a taken message fills it
+    /// anew; a [`peel`](Board::peel) from all ones finds a cover without it.
     pub fn attach(parts: Parts<'m>, head: Head) -> Result<Board<'m>, Refusal> {
         let mut board = Board { head, parts };
         // A list call checks the board before its first message; this one has none.
@@ -152,7 +196,7 @@ impl<'m> Board<'m> {
         self.head
     }
 
-    /// The listed pairs, ascending.
+    /// The listed pairs, ascending: every clearance, also of those who are off or out.
     pub fn pairs(&self) -> impl Iterator<Item = (u16, u16)> + '_ {
         let (operators, rides) = (self.parts.operators.iter(), self.parts.rides.iter());
         operators.copied().zip(rides.copied()).take(self.head.pairs as usize)
@@ -166,6 +210,22 @@ impl<'m> Board<'m> {
     /// The revision of a pair's last message, 0 where none was heard of; `None` out of range.
     pub fn revision(&self, operator: u16, ride: u16) -> Option<u16> {
         self.place(operator, ride).map(|place| self.parts.revisions[place])
+    }
+
+    /// Whether an operator is on, and its last stamp and revision; `None` out of range.
+    pub fn operator_presence(&self, operator: u16) -> Option<Presence> {
+        (operator < self.head.operators).then(|| self.presence_at(operator as usize))
+    }
+
+    /// Whether a ride is in, and its last stamp and revision; `None` out of range.
+    pub fn ride_presence(&self, ride: u16) -> Option<Presence> {
+        (ride < self.head.rides).then(|| self.presence_at(self.head.operators as usize + ride as usize))
+    }
+
+    fn presence_at(&self, place: usize) -> Presence {
+        let Parts { presence_stamps, presence_revisions, presence, .. } = &self.parts;
+        let present = presence[place] == PRESENT;
+        Presence { present, stamp: presence_stamps[place], revision: presence_revisions[place] }
     }
 
     /// The place of a pair among the stamps, and among the revisions; `None` out of range.
@@ -184,46 +244,77 @@ impl<'m> Board<'m> {
 
     /// The parts to the lengths that the board uses.
     pub fn words(&self) -> Words<'_> {
-        let places = pair_places(self.head.operators, self.head.rides);
+        let Head { operators, rides, .. } = self.head;
+        let (places, nodes) = (pair_places(operators, rides), mark_places(operators, rides));
         let parts = &self.parts;
         Words {
             operators: &parts.operators[..places],
             rides: &parts.rides[..places],
             stamps: &parts.stamps[..places],
             revisions: &parts.revisions[..places],
-            index: &parts.index[..index_places(self.head.operators, self.head.rides)],
+            index: &parts.index[..index_places(operators, rides)],
+            presence_stamps: &parts.presence_stamps[..nodes],
+            presence_revisions: &parts.presence_revisions[..nodes],
+            presence: &parts.presence[..nodes],
         }
     }
 
-    /// Query: writes the marks of cover (alpha, beta), and counts them. A limit of 0 is no limit.
+    /// Query: writes the marks of cover (alpha, beta), and counts them. A limit of 0 is no limit. Nobody who is off or out is
+    /// marked.
     pub fn query(&self, alpha: u16, beta: u16, marks: &mut [u16]) -> Result<Counts, Refusal> {
-        query(self.head, self.parts.index, alpha, beta, marks)
+        query(self.head, self.parts.index, self.parts.presence, alpha, beta, marks)
     }
 
-    /// Cover (alpha, beta), with marks of its own. A limit of 0 is no limit: alpha 0 takes in every operator, beta 0 every
-    /// ride, so that a dispatch permit needs a beta from 1.
+    /// Cover (alpha, beta), with marks of its own. A limit of 0 is no limit: alpha 0 takes in every operator who is on, beta 0
+    /// every ride that is in, so that a dispatch permit needs a beta from 1.
     pub fn cover(&self, alpha: u16, beta: u16) -> Result<Cover, Refusal> {
         let mut marks = [0; MARK_PLACES];
         let counts = self.query(alpha, beta, &mut marks)?;
         Ok(Cover { head: self.head, counts, marks })
     }
 
-    /// Peel: clears the marks of those that fall short, in at most `steps` steps. Nobody falls short of a limit of 0. It
-    /// does not read the index.
+    /// Peel: clears the marks of those that fall short, in at most `steps` steps. Whoever is off or out falls short of every
+    /// limit, and takes a step too; nobody else falls short of a limit of 0. It does not read the index.
     pub fn peel(&self, marks: &mut [u16], alpha: u16, beta: u16, steps: u16) -> Result<Peeled, Refusal> {
-        peel(self.head, self.parts.operators, self.parts.rides, marks, alpha, beta, steps)
+        let Parts { operators, rides, presence, .. } = &self.parts;
+        peel(self.head, operators, rides, presence, marks, alpha, beta, steps)
     }
 
     /// Takes one message; the number of index words that differ before and after.
     pub fn message(&mut self, one: Message) -> Result<u16, Refusal> {
-        let Parts { operators, rides, stamps, revisions, index } = &mut self.parts;
-        message(&mut self.head, operators, rides, stamps, revisions, index, one)
+        let Parts { operators, rides, stamps, revisions, index, presence_stamps, presence_revisions, presence } =
+            &mut self.parts;
+        message(
+            &mut self.head,
+            operators,
+            rides,
+            stamps,
+            revisions,
+            index,
+            presence_stamps,
+            presence_revisions,
+            presence,
+            one,
+        )
     }
 
     /// Takes a list of messages in order, over an answer list at least as long.
     pub fn messages<'a>(&mut self, list: &[Message], answers: &'a mut [u16]) -> Result<Answers<'a>, Refusal> {
-        let Parts { operators, rides, stamps, revisions, index } = &mut self.parts;
-        messages(&mut self.head, operators, rides, stamps, revisions, index, list, answers)
+        let Parts { operators, rides, stamps, revisions, index, presence_stamps, presence_revisions, presence } =
+            &mut self.parts;
+        messages(
+            &mut self.head,
+            operators,
+            rides,
+            stamps,
+            revisions,
+            index,
+            presence_stamps,
+            presence_revisions,
+            presence,
+            list,
+            answers,
+        )
     }
 
     /// What a message would do: the number of index words that would differ, and the board as the message would leave it,
@@ -252,6 +343,9 @@ impl<'m> Board<'m> {
             parts.stamps,
             parts.revisions,
             parts.index,
+            parts.presence_stamps,
+            parts.presence_revisions,
+            parts.presence,
             one,
             &mut head,
             spare.operators,
@@ -259,6 +353,9 @@ impl<'m> Board<'m> {
             spare.stamps,
             spare.revisions,
             spare.index,
+            spare.presence_stamps,
+            spare.presence_revisions,
+            spare.presence,
         )?;
         Ok((differ, Board { head, parts: spare }))
     }
@@ -284,7 +381,7 @@ impl Cover {
     }
 
     /// Whether a ride is in it; a ride that the board doesn't have is not. A ride in a cover with beta from 1 may dispatch.
-    /// With beta 0 every ride is in, which permits nothing.
+    /// With beta 0 every ride in service is in it, which permits nothing.
     pub fn has_ride(&self, ride: u16) -> bool {
         ride < self.head.rides && self.marks[self.head.operators as usize + ride as usize] == 1
     }

@@ -10,6 +10,8 @@
 //! assert!(!board.cover(2, 2)?.has_ride(2));
 //! board.message(Message::grant(3, 1, 20))?;
 //! assert!(board.cover(2, 2)?.has_ride(2));
+//! board.message(Message::operator_off(3, 30))?;
+//! assert!(!board.cover(2, 2)?.has_ride(2));
 //! # Ok::<(), board::Refusal>(())
 //! ```
 #![no_std]
@@ -24,8 +26,8 @@ mod refusal;
 pub use answers::Answers;
 pub use calls::{build, message, messages, peel, preview, query};
 pub use calls::{Counts, Head, Message, Peeled};
-pub use calls::{GRANT, WITHDRAWAL};
-pub use held::{Board, Cover, Memory, Parts, Words};
+pub use calls::{GRANT, OPERATOR_OFF, OPERATOR_ON, RIDE_IN, RIDE_OUT, WITHDRAWAL};
+pub use held::{Board, Cover, Memory, Parts, Presence, Words};
 pub use refusal::Refusal;
 
 /// The most operators of a board.
@@ -36,12 +38,16 @@ pub const RIDES_MOST: u16 = 60;
 /// The largest revision of a message.
 pub const REVISION_MOST: u16 = 255;
 
+/// The presence word of an operator who is on, and of a ride that is in. Any other word is off or out.
+pub const PRESENT: u16 = 1;
+
 /// The length of each pair array, of the stamps and of the revisions.
 pub const fn pair_places(operators: u16, rides: u16) -> usize {
     operators as usize * rides as usize
 }
 
-/// The length of the marks, and of one row of the index: each operator, then each ride.
+/// The length of the presence stamps, revisions and words, of the marks, and of one row of the index: each operator, then
+/// each ride.
 pub const fn mark_places(operators: u16, rides: u16) -> usize {
     operators as usize + rides as usize
 }

@@ -41,15 +41,16 @@ refusals! {
     4 PairsOver "pairs over operators × rides"
     5 PairMisplaced "a pair out of range, or not strictly ascending"
     6 StampMissing "message: a listed pair has stamp 0"
-    7 KindUnknown "message: kind not 1 or 2"
+    7 KindUnknown "message: kind not 1 to 6"
     8 OutOfRange "message: operator or ride out of range"
     9 StampZero "message or starting stamp is 0"
-    10 NotLater "message not later than the pair's last"
+    10 NotLater "message not later than the last of its pair, operator or ride"
     #[deprecated = "never given since 1.2.0: a limit of 0 is no limit; check a permit's β before the call"]
     11 LimitZero "retired: limits may be 0"
     12 MarkUnknown "peel: a mark in use is not 0 or 1"
     13 InputLengthWrong "program: input length wrong"
     14 RevisionOver "message: revision over 255"
+    15 UnusedField "message: an unused field is not 0"
 }
 
 impl Refusal {

@@ -6,7 +6,7 @@ use board::*;
 use lent::Lent;
 
 const PAIRS: [(u16, u16); 7] = [(0, 0), (0, 1), (1, 0), (1, 1), (2, 1), (2, 2), (3, 2)];
-const LENGTHS: [usize; 5] = [12, 12, 12, 12, 21];
+const LENGTHS: [usize; 8] = [12, 12, 12, 12, 21, 7, 7, 7];
 
 /// Document 01's board in parts longer than it needs, and its head.
 fn stored() -> (Lent, Head) {
@@ -21,6 +21,7 @@ fn the_board_goes_on() {
     let (mut lent, _) = stored();
     let mut board = Board::attach(lent.parts(), Head { operators: 4, rides: 3, pairs: 7 }).unwrap();
     board.message(Message::grant(3, 1, 9).with_revision(2)).unwrap();
+    board.message(Message::operator_off(1, 9).with_revision(2)).unwrap();
     let head = board.head();
     let mut copy = Lent::from(board.words());
     let before = copy.clone();
@@ -32,16 +33,24 @@ fn the_board_goes_on() {
         Message::withdrawal(3, 1, 9).with_revision(1),
         Message::withdrawal(3, 1, 9).with_revision(2),
         Message::grant(3, 0, 7),
+        Message::operator_on(1, 9).with_revision(2),
+        Message::operator_on(1, 9).with_revision(3),
+        Message::ride_out(2, 8),
+        Message::ride_in(2, 7),
     ];
+    let mut refused = 0;
     for message in std::iter::once(None).chain(later.map(Some)) {
         if let Some(one) = message {
-            assert_eq!(attached.message(one), board.message(one));
+            let answer = board.message(one);
+            assert_eq!(attached.message(one), answer);
+            refused += answer.is_err() as usize;
         }
         assert_eq!((attached.head(), attached.words()), (board.head(), board.words()));
         for (alpha, beta) in (0..5).flat_map(|alpha| (0..6).map(move |beta| (alpha, beta))) {
             assert_eq!(attached.cover(alpha, beta), board.cover(alpha, beta));
         }
     }
+    assert_eq!(refused, 4);
     assert_ne!(copy, before);
 }
 
@@ -115,4 +124,26 @@ fn a_revision_over_255() {
     assert_eq!(board.revision(0, 0), Some(300));
     assert!(board.message(Message::withdrawal(0, 0, 6)).is_ok());
     assert_eq!((board.stamp(0, 0), board.revision(0, 0)), (Some(6), Some(0)));
+}
+
+/// Any stored word but 1, which no call writes but 0, is taken up as off or out and stays; its owner's next message writes 1
+/// or 0.
+#[test]
+fn words_of_no_meaning() {
+    for word in [0, 2, 7, 257, u16::MAX] {
+        let (mut lent, head) = stored();
+        (lent.presence[2], lent.presence[4 + 2]) = (word, word);
+        let mut board = Board::attach(lent.parts(), head).unwrap();
+        let gone = Some(Presence { present: false, stamp: 0, revision: 0 });
+        assert_eq!((board.operator_presence(2), board.ride_presence(2)), (gone, gone));
+        assert!(board.cover(0, 0).unwrap().operators().eq([0, 1, 3]));
+        assert!(board.cover(0, 0).unwrap().rides().eq([0, 1]));
+        assert!(board.message(Message::grant(0, 0, 6)).is_ok());
+        assert_eq!(board.words().presence, [1, 1, word, 1, 1, 1, word]);
+        assert_eq!(board.row(1), Some(&[2, 2, 0, 0, 2, 2, 0][..]));
+        assert!(board.message(Message::ride_in(2, 1)).is_ok());
+        assert!(board.message(Message::operator_off(2, 1)).is_ok());
+        assert_eq!(board.words().presence, [1, 1, 0, 1, 1, 1, 1]);
+        assert_eq!(board.row(1), Some(&[2, 2, 0, 1, 2, 2, 1][..]));
+    }
 }

@@ -1,6 +1,9 @@
 //! The wrapper over the library: document 01's samples, each refusal, and what it leaves in lent memory.
 
+mod lent;
+
 use board::*;
+use lent::Lent;
 use std::sync::Mutex;
 
 const SAMPLE: [(u16, u16); 7] = [(0, 0), (0, 1), (1, 0), (1, 1), (2, 1), (2, 2), (3, 2)];
@@ -141,7 +144,9 @@ fn messages_of_one_pair() {
     assert_eq!(board.message(Message::grant(0, 0, 5)), Err(Refusal::NotLater));
     assert!(board.message(Message::withdrawal(0, 0, 5)).is_ok());
     assert!(board.message(Message::grant(0, 0, 6)).is_ok());
-    assert_eq!(board.message(Message { kind: 3, ..Message::default() }), Err(Refusal::KindUnknown));
+    for kind in [0, 7, 256, u16::MAX] {
+        assert_eq!(board.message(Message { kind, ..Message::grant(3, 0, 6) }), Err(Refusal::KindUnknown));
+    }
     assert_eq!(board.message(Message::grant(4, 0, 6)), Err(Refusal::OutOfRange));
     assert_eq!(board.message(Message::grant(0, 3, 6)), Err(Refusal::OutOfRange));
     assert_eq!(board.message(Message::grant(3, 0, 0)), Err(Refusal::StampZero));
@@ -156,10 +161,14 @@ fn a_list_is_its_messages() {
         Message::grant(2, 0, 7).with_revision(256),
         Message::grant(2, 0, 7).with_revision(2),
         Message::withdrawal(2, 0, 7).with_revision(1),
+        Message::operator_off(1, 3),
+        Message { ride: 1, ..Message::operator_on(1, 4) },
+        Message::operator_on(1, 3),
+        Message::ride_out(0, 2),
     ];
     let (mut memory, mut other) = (Memory::new(), Memory::new());
     let mut board = sample(&mut memory, 5);
-    let mut answers = [77; 7];
+    let mut answers = [77; 11];
     let read = board.messages(&list, &mut answers).unwrap();
     assert!(read.iter().eq([
         Ok(()),
@@ -168,16 +177,20 @@ fn a_list_is_its_messages() {
         Err(Refusal::RevisionOver),
         Ok(()),
         Err(Refusal::NotLater),
+        Ok(()),
+        Err(Refusal::UnusedField),
+        Err(Refusal::NotLater),
+        Ok(()),
     ]));
-    assert_eq!((read.get(1), read.get(4), read.get(6)), (Some(Err(Refusal::NotLater)), Some(Ok(())), None));
+    assert_eq!((read.get(1), read.get(4), read.get(10)), (Some(Err(Refusal::NotLater)), Some(Ok(())), None));
     let mut one_by_one = sample(&mut other, 5);
     for (message, answer) in list.into_iter().zip(read) {
         assert_eq!(one_by_one.message(message).map(|_| ()), answer);
     }
-    assert_eq!(answers, [0, 10, 7, 14, 0, 10, 77]);
+    assert_eq!(answers, [0, 10, 7, 14, 0, 10, 0, 15, 10, 0, 77]);
     assert_eq!(board.head(), one_by_one.head());
     assert_eq!(board.words(), one_by_one.words());
-    assert_eq!(board.messages(&list, &mut answers[..5]), Err(Refusal::PartShort));
+    assert_eq!(board.messages(&list, &mut answers[..9]), Err(Refusal::PartShort));
     assert_eq!(board.messages(&[], &mut []).unwrap().iter().len(), 0);
 }
 
@@ -185,7 +198,7 @@ fn a_list_is_its_messages() {
 #[test]
 fn lengths() {
     let head = Head { operators: 4, rides: 3, pairs: 7 };
-    for short in 0..6 {
+    for short in 0..9 {
         let length = |part, places: usize| if part == short { places - 1 } else { places + 2 };
         let mut operators = [7; 14];
         let mut rides = [7; 14];
@@ -193,7 +206,8 @@ fn lengths() {
             (operators[place], rides[place]) = *pair;
         }
         let (mut stamps, mut revisions, mut index) = ([7; 14], [7; 14], [7; 23]);
-        let before = (operators, rides, stamps, revisions, index);
+        let (mut presence_stamps, mut presence_revisions, mut presence) = ([7; 9], [7; 9], [7; 9]);
+        let before = (operators, rides, stamps, revisions, index, presence_stamps, presence_revisions, presence);
         let answer = build(
             head,
             &mut operators[..length(0, 12)],
@@ -202,41 +216,118 @@ fn lengths() {
             &mut stamps[..length(2, 12)],
             &mut revisions[..length(3, 12)],
             &mut index[..length(4, 21)],
+            &mut presence_stamps[..length(5, 7)],
+            &mut presence_revisions[..length(6, 7)],
+            &mut presence[..length(7, 7)],
         );
-        if short < 5 {
+        if short < 8 {
             assert_eq!(answer, Err(Refusal::PartShort));
-            assert_eq!((operators, rides, stamps, revisions, index), before);
+            let after = (operators, rides, stamps, revisions, index, presence_stamps, presence_revisions, presence);
+            assert_eq!(after, before);
         } else {
             assert_eq!(answer, Ok(()));
             let tails = [&operators[12..], &rides[12..], &revisions[12..], &index[21..]];
             assert_eq!((tails, &stamps[12..]), ([&[7; 2][..]; 4], &[7; 2][..]));
+            let tails = [&presence_revisions[7..], &presence[7..]];
+            assert_eq!((tails, &presence_stamps[7..]), ([&[7; 2][..]; 2], &[7; 2][..]));
         }
     }
     let mut marks = [9; 7];
     for (alpha, beta) in [(1, 1), (0, 0), (0, 1), (4, 0)] {
-        assert_eq!(query(head, &[0; 20], alpha, beta, &mut marks), Err(Refusal::PartShort));
-        assert_eq!(query(head, &[0; 21], alpha, beta, &mut marks[..6]), Err(Refusal::PartShort));
-        assert_eq!(peel(head, &[0; 12], &[0; 12], &mut marks[..6], alpha, beta, 1), Err(Refusal::PartShort));
+        assert_eq!(query(head, &[0; 20], &[1; 7], alpha, beta, &mut marks), Err(Refusal::PartShort));
+        assert_eq!(query(head, &[0; 21], &[1; 6], alpha, beta, &mut marks), Err(Refusal::PartShort));
+        assert_eq!(query(head, &[0; 21], &[1; 7], alpha, beta, &mut marks[..6]), Err(Refusal::PartShort));
+        for [operators, rides, presence, marked] in [[11, 12, 7, 7], [12, 11, 7, 7], [12, 12, 6, 7], [12, 12, 7, 6]] {
+            let marks = &mut marks[..marked];
+            let peeled =
+                peel(head, &[0; 12][..operators], &[0; 12][..rides], &[1; 7][..presence], marks, alpha, beta, 1);
+            assert_eq!(peeled, Err(Refusal::PartShort));
+        }
     }
     assert_eq!(marks, [9; 7]);
 }
 
-/// A listed pair with stamp 0, which no board of [`Board`] has.
+/// A message call and a list call of that message, over lent parts.
+fn send(parts: Parts, head: &mut Head, one: Message, answers: &mut [u16]) -> [Result<(), Refusal>; 2] {
+    let Parts { operators, rides, stamps, revisions, index, presence_stamps, presence_revisions, presence } = parts;
+    let sent =
+        message(head, operators, rides, stamps, revisions, index, presence_stamps, presence_revisions, presence, one);
+    let listed = messages(
+        head,
+        operators,
+        rides,
+        stamps,
+        revisions,
+        index,
+        presence_stamps,
+        presence_revisions,
+        presence,
+        &[one],
+        answers,
+    );
+    [sent.map(|_| ()), listed.map(|_| ())]
+}
+
+/// A message of each kind, valid on a board of one operator and one ride.
+const OF_EACH_KIND: [Message; 6] = [
+    Message::grant(0, 0, 6),
+    Message::withdrawal(0, 0, 6),
+    Message::operator_on(0, 6),
+    Message::operator_off(0, 6),
+    Message::ride_in(0, 6),
+    Message::ride_out(0, 6),
+];
+
+/// A part one place too short, each in turn, is 3 for a message and for a list of every kind, before 7, 8, 9, 14 and 15. No
+/// lent word changes.
+#[test]
+fn a_part_too_short() {
+    let needed = [12, 12, 12, 12, 21, 7, 7, 7];
+    let mut lent = Lent::new(needed);
+    let mut head = Board::build(lent.parts(), 4, 3, &SAMPLE, 5).unwrap().head();
+    let (before, mut answers) = (lent.clone(), [77]);
+    let invalid = [
+        Message { kind: 7, ..Message::default() },
+        Message::ride_out(3, 6),
+        Message::operator_on(0, 0),
+        Message::grant(3, 1, 6).with_revision(256),
+        Message { ride: 1, ..Message::operator_off(0, 6) },
+    ];
+    for part in 0..needed.len() {
+        let mut lengths = needed;
+        lengths[part] -= 1;
+        for one in OF_EACH_KIND.into_iter().chain(invalid) {
+            let answer = send(lent.first(lengths), &mut head, one, &mut answers);
+            assert_eq!(answer, [Err(Refusal::PartShort); 2], "part {part}, {one:?}");
+            assert_eq!((&lent, head.pairs, answers), (&before, 7, [77]), "part {part}, {one:?}");
+        }
+    }
+    assert_eq!(send(lent.first(needed), &mut head, OF_EACH_KIND[3], &mut answers), [Ok(()); 2]);
+    assert_eq!(answers, [10]);
+}
+
+/// A listed pair with stamp 0, which no board of [`Board`] has, is 6 for every kind, whether the pair counts or not.
 #[test]
 fn a_stamp_missing() {
-    let mut head = Head { operators: 1, rides: 1, pairs: 1 };
-    let (mut operators, mut rides, mut stamps, mut revisions, mut index) = ([0], [0], [0], [3], [5, 5]);
-    let mut answers = [9];
-    let one = Message::withdrawal(0, 0, 3);
-    assert_eq!(
-        message(&mut head, &mut operators, &mut rides, &mut stamps, &mut revisions, &mut index, one),
-        Err(Refusal::StampMissing)
-    );
-    assert_eq!(
-        messages(&mut head, &mut operators, &mut rides, &mut stamps, &mut revisions, &mut index, &[one], &mut answers),
-        Err(Refusal::StampMissing)
-    );
-    assert_eq!((head.pairs, stamps, revisions, index, answers), (1, [0], [3], [5, 5], [9]));
+    for presence in [vec![1, 1], vec![0, 1], vec![1, 0]] {
+        let before = Lent {
+            operators: vec![0],
+            rides: vec![0],
+            stamps: vec![0],
+            revisions: vec![3],
+            index: vec![5, 5],
+            presence_stamps: vec![5, 5],
+            presence_revisions: vec![5, 5],
+            presence,
+        };
+        let (mut lent, mut answers) = (before.clone(), [9]);
+        let mut head = Head { operators: 1, rides: 1, pairs: 1 };
+        for one in OF_EACH_KIND {
+            let answer = send(lent.parts(), &mut head, one, &mut answers);
+            assert_eq!(answer, [Err(Refusal::StampMissing); 2], "{one:?}");
+        }
+        assert_eq!((head.pairs, lent, answers), (1, before, [9]));
+    }
 }
 
 /// A board in static memory.
@@ -258,11 +349,11 @@ fn numbers_and_texts() {
         assert_eq!((refusal.number(), Refusal::from_number(number)), (number, Some(*refusal)));
         assert_eq!(Refusal::check(number), Err(*refusal));
     }
-    assert_eq!((Refusal::from_number(0), Refusal::from_number(15)), (None, None));
-    assert_eq!(Refusal::NotLater.to_string(), "10: message not later than the pair's last");
+    assert_eq!((Refusal::from_number(0), Refusal::from_number(16)), (None, None));
+    assert_eq!(Refusal::NotLater.to_string(), "10: message not later than the last of its pair, operator or ride");
 }
 
-/// The C header has the same numbers, texts and sizes, its texts in ASCII.
+/// The C header has the same numbers, texts, kinds and sizes, its texts in ASCII.
 #[test]
 fn the_header_agrees() {
     let header = include_str!("../../../include/board.h");
@@ -276,6 +367,17 @@ fn the_header_agrees() {
     assert!(header.contains(&format!("BOARD_OPERATORS_MOST {OPERATORS_MOST}\n")));
     assert!(header.contains(&format!("BOARD_RIDES_MOST {RIDES_MOST}\n")));
     assert!(header.contains(&format!("BOARD_REVISION_MOST {REVISION_MOST}\n")));
+    assert!(header.contains(&format!("BOARD_PRESENT {PRESENT}\n")));
+    for (name, kind) in [
+        ("GRANT", GRANT),
+        ("WITHDRAWAL", WITHDRAWAL),
+        ("OPERATOR_ON", OPERATOR_ON),
+        ("OPERATOR_OFF", OPERATOR_OFF),
+        ("RIDE_IN", RIDE_IN),
+        ("RIDE_OUT", RIDE_OUT),
+    ] {
+        assert!(header.contains(&format!("    BOARD_{name} = {kind}")), "{name}");
+    }
     assert_eq!((size_of::<Head>(), size_of::<Message>()), (6, 12));
     assert_eq!((core::mem::offset_of!(Message, revision), core::mem::offset_of!(Message, stamp)), (6, 8));
 }

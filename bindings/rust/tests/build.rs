@@ -6,9 +6,9 @@ use board::*;
 use lent::Lent;
 
 /// The lengths that a board needs, of a size that is allowed or not.
-fn needed(operators: u16, rides: u16) -> [usize; 5] {
-    let places = pair_places(operators, rides);
-    [places, places, places, places, index_places(operators, rides)]
+fn needed(operators: u16, rides: u16) -> [usize; 8] {
+    let (places, nodes) = (pair_places(operators, rides), mark_places(operators, rides));
+    [places, places, places, places, index_places(operators, rides), nodes, nodes, nodes]
 }
 
 /// The exported build, over pair arrays in which the pairs stand, as many as there is room for.
@@ -17,12 +17,13 @@ fn exported(lent: &mut Lent, operators: u16, rides: u16, pairs: &[(u16, u16)], s
         (*operator, *ride) = *pair;
     }
     let head = Head { operators, rides, pairs: u16::try_from(pairs.len()).unwrap_or(u16::MAX) };
-    let Parts { operators, rides, stamps, revisions, index } = lent.parts();
-    build(head, operators, rides, start, stamps, revisions, index)
+    let Parts { operators, rides, stamps, revisions, index, presence_stamps, presence_revisions, presence } =
+        lent.parts();
+    build(head, operators, rides, start, stamps, revisions, index, presence_stamps, presence_revisions, presence)
 }
 
 /// Both builds from the same words: one answer, and the same words where it is `Ok`. Its number.
-fn compare(lengths: [usize; 5], operators: u16, rides: u16, pairs: &[(u16, u16)], start: u32) -> usize {
+fn compare(lengths: [usize; 8], operators: u16, rides: u16, pairs: &[(u16, u16)], start: u32) -> usize {
     let mut lent = Lent::new(lengths);
     let (before, mut other) = (lent.clone(), lent.clone());
     let answer = Board::build(lent.parts(), operators, rides, pairs, start).map(|_| ());
@@ -33,7 +34,7 @@ fn compare(lengths: [usize; 5], operators: u16, rides: u16, pairs: &[(u16, u16)]
 }
 
 /// How often each number was answered, all that a build has among them.
-fn check_counts(counts: [usize; 15]) {
+fn check_counts(counts: [usize; 16]) {
     for (number, count) in counts.into_iter().enumerate() {
         assert_eq!(count != 0, matches!(number, 0..=5 | 9), "{number}: {counts:?}");
     }
@@ -43,7 +44,7 @@ fn check_counts(counts: [usize; 15]) {
 /// part too short in turn.
 #[test]
 fn numbers_of_every_small_table() {
-    let mut counts = [0; 15];
+    let mut counts = [0; 16];
     let small = (0..3).flat_map(|operators| (0..3).map(move |rides| (operators, rides)));
     for (operators, rides) in small.chain([(201, 1), (1, 61), (201, 61), (u16::MAX, u16::MAX)]) {
         let lengths = needed(operators.min(2), rides.min(2));
@@ -86,7 +87,7 @@ impl Numbers {
 /// Larger tables at random, whole or with one or more damages.
 #[test]
 fn numbers_of_damaged_tables() {
-    let mut counts = [0; 15];
+    let mut counts = [0; 16];
     let mut numbers = Numbers(20_260_101);
     for _ in 0..4000 {
         let (operators, rides) = match numbers.below(40) {
@@ -130,6 +131,7 @@ fn the_board_before_stands() {
     let mut lent = Lent::new(needed(4, 3).map(|length| length + 2));
     let mut board = Board::build(lent.parts(), 4, 3, &pairs, 1).unwrap();
     board.message(Message::grant(3, 1, 2).with_revision(4)).unwrap();
+    board.message(Message::operator_off(0, 2).with_revision(1)).unwrap();
     let (head, cover) = (board.head(), board.cover(2, 2).unwrap());
     let before = lent.clone();
 
@@ -167,5 +169,25 @@ fn revisions_of_a_build() {
         board.message(Message::grant(2, 1, 1).with_revision(7)).unwrap();
         assert_eq!(board.words().revisions, [255, 0, 0, 0, 0, 0, 0, 7, 0, 0, 0, 0], "turn {turn}");
         assert_eq!(lent.revisions[12..], [777; 2], "turn {turn}");
+    }
+}
+
+/// A build sets every operator on and every ride in, with stamp and revision 0, whatever stood there, and no place behind
+/// them; and whatever words stood there, the index is that of all pairs.
+#[test]
+fn presence_of_a_build() {
+    let mut lent = Lent::new(needed(4, 3).map(|length| length + 2));
+    let row = [1, 0, 0, 1, 1, 0, 1];
+    for turn in 0..2 {
+        let mut board = Board::build(lent.parts(), 4, 3, &[(0, 0), (3, 2)], 5).unwrap();
+        assert_eq!((board.words().presence_stamps, board.words().presence_revisions), (&[0; 7][..], &[0; 7][..]));
+        assert_eq!((board.words().presence, board.row(1)), (&[1; 7][..], Some(&row[..])), "turn {turn}");
+        board.message(Message::operator_off(3, 1).with_revision(255)).unwrap();
+        board.message(Message::ride_in(1, 4).with_revision(7)).unwrap();
+        assert_eq!(board.words().presence_stamps, [0, 0, 0, 1, 0, 4, 0], "turn {turn}");
+        assert_eq!(board.words().presence_revisions, [0, 0, 0, 255, 0, 7, 0], "turn {turn}");
+        assert_eq!(board.words().presence, [1, 1, 1, 0, 1, 1, 1], "turn {turn}");
+        assert_eq!(lent.presence_stamps[7..], [777; 2], "turn {turn}");
+        assert_eq!((&lent.presence_revisions[7..], &lent.presence[7..]), (&[777; 2][..], &[777; 2][..]), "turn {turn}");
     }
 }

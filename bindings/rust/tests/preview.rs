@@ -6,45 +6,57 @@ use board::*;
 use lent::Lent;
 
 const PAIRS: [(u16, u16); 7] = [(0, 0), (0, 1), (1, 0), (1, 1), (2, 1), (2, 2), (3, 2)];
-const LENGTHS: [usize; 5] = [12, 12, 12, 12, 21];
+const LENGTHS: [usize; 8] = [12, 12, 12, 12, 21, 7, 7, 7];
 
 /// Parts longer than document 01's board needs, with no board in them.
 fn longer() -> Lent {
     Lent::new(LENGTHS.map(|length| length + 2))
 }
 
-/// Document 01's board built at stamp 5, after a withdrawal at stamp 7 with revision 2, in longer parts; and its head. Past
-/// the needed lengths the parts hold another word than those without a board.
+/// Document 01's board built at stamp 5, after a withdrawal, operator 1 off and ride 0 in at stamp 7 with revision 2, in
+/// longer parts; and its head. Past the needed lengths the parts hold another word than those without a board.
 fn stored() -> (Lent, Head) {
     let mut lent = longer();
     let mut board = Board::build(lent.parts(), 4, 3, &PAIRS, 5).unwrap();
-    board.message(Message::withdrawal(3, 2, 7).with_revision(2)).unwrap();
+    for one in [Message::withdrawal(3, 2, 7), Message::operator_off(1, 7), Message::ride_in(0, 7)] {
+        board.message(one.with_revision(2)).unwrap();
+    }
     let head = board.head();
-    let [operators, rides, stamps, revisions, index] = LENGTHS;
+    let [operators, rides, stamps, revisions, index, presence_stamps, presence_revisions, presence] = LENGTHS;
     lent.operators[operators..].fill(555);
     lent.rides[rides..].fill(555);
     lent.stamps[stamps..].fill(555);
     lent.revisions[revisions..].fill(555);
     lent.index[index..].fill(555);
+    lent.presence_stamps[presence_stamps..].fill(555);
+    lent.presence_revisions[presence_revisions..].fill(555);
+    lent.presence[presence..].fill(555);
     (lent, head)
 }
 
-/// Every message of a kind, a pair, a stamp and a revision in range or just past it.
+/// Every message of a kind, an operator, a ride, a stamp and a revision in range or just past it.
 fn messages_of_all_sorts() -> Vec<Message> {
     let pairs = || (0..5).flat_map(|operator| (0..4).map(move |ride| (operator, ride)));
     let sent =
         || [0, 4, 5, 6, 7, 8].into_iter().flat_map(|stamp| [0, 1, 2, 3, 255, 256].map(|revision| (stamp, revision)));
     let message = |kind, (operator, ride), (stamp, revision)| Message { kind, operator, ride, revision, stamp };
     let of = |kind| pairs().flat_map(move |pair| sent().map(move |sent| message(kind, pair, sent)));
-    (0..4).flat_map(of).collect()
+    (0..8).flat_map(of).collect()
 }
 
 /// Whether the places past the needed lengths are as they came.
 fn tails_stand(lent: &Lent) -> bool {
-    let [operators, rides, stamps, revisions, index] = LENGTHS;
-    let words =
-        [&lent.operators[operators..], &lent.rides[rides..], &lent.revisions[revisions..], &lent.index[index..]];
-    words.iter().all(|tail| *tail == [777; 2]) && lent.stamps[stamps..] == [777; 2]
+    let [operators, rides, stamps, revisions, index, presence_stamps, presence_revisions, presence] = LENGTHS;
+    let words = [
+        &lent.operators[operators..],
+        &lent.rides[rides..],
+        &lent.revisions[revisions..],
+        &lent.index[index..],
+        &lent.presence_revisions[presence_revisions..],
+        &lent.presence[presence..],
+    ];
+    let stamps = [&lent.stamps[stamps..], &lent.presence_stamps[presence_stamps..]];
+    words.iter().all(|tail| *tail == [777; 2]) && stamps.iter().all(|tail| *tail == [777; 2])
 }
 
 /// A preview answers as the message does on a copy, and leaves the same words. The message sent afterwards answers so
@@ -52,7 +64,7 @@ fn tails_stand(lent: &Lent) -> bool {
 #[test]
 fn as_on_a_copy() {
     let (lent, head) = stored();
-    let mut counts = [0; 15];
+    let mut counts = [0; 16];
     for one in messages_of_all_sorts() {
         let (mut memory, mut copy, mut spare) = (lent.clone(), lent.clone(), longer());
         let mut copied = Board::attach(copy.parts(), head).unwrap();
@@ -77,7 +89,7 @@ fn as_on_a_copy() {
         }
     }
     for (number, count) in counts.into_iter().enumerate() {
-        assert_eq!(count != 0, matches!(number, 0 | 7..=10 | 14), "{number}: {counts:?}");
+        assert_eq!(count != 0, matches!(number, 0 | 7..=10 | 14 | 15), "{number}: {counts:?}");
     }
 }
 
@@ -151,6 +163,9 @@ impl Loan {
             &board.stamps,
             &board.revisions,
             &board.index,
+            &board.presence_stamps,
+            &board.presence_revisions,
+            &board.presence,
             one,
             &mut self.spare_head,
             &mut spare.operators,
@@ -158,24 +173,29 @@ impl Loan {
             &mut spare.stamps,
             &mut spare.revisions,
             &mut spare.index,
+            &mut spare.presence_stamps,
+            &mut spare.presence_revisions,
+            &mut spare.presence,
         )
     }
 }
 
 type Damage = fn(&mut Loan, &mut Message);
 
-/// The damages of 1 to 9 and 14, in the order in which they are checked; that of 3 shortens a spare part.
-const DAMAGES: [(Refusal, Damage); 10] = [
+/// The damages of 1 to 9, 14 and 15 to a message for an operator, in the order in which they are checked; that of 3 shortens
+/// a spare part.
+const DAMAGES: [(Refusal, Damage); 11] = [
     (Refusal::OperatorsOver, |loan, _| loan.head.operators = 201),
     (Refusal::RidesOver, |loan, _| loan.head.rides = 61),
     (Refusal::PartShort, |loan, _| loan.spare.stamps.truncate(11)),
     (Refusal::PairsOver, |loan, _| loan.head.pairs = 13),
     (Refusal::PairMisplaced, |loan, _| loan.board.rides[2] = 3),
     (Refusal::StampMissing, |loan, _| loan.board.stamps[0] = 0),
-    (Refusal::KindUnknown, |_, one| one.kind = 3),
+    (Refusal::KindUnknown, |_, one| one.kind = 7),
     (Refusal::OutOfRange, |_, one| one.operator = 4),
     (Refusal::StampZero, |_, one| one.stamp = 0),
     (Refusal::RevisionOver, |_, one| one.revision = 256),
+    (Refusal::UnusedField, |_, one| one.ride = 3),
 ];
 
 /// Of two damages the one that is checked first gives its number, and every lent word is as it was, the spare head too.
@@ -183,7 +203,7 @@ const DAMAGES: [(Refusal, Damage); 10] = [
 fn the_first_number() {
     for (first, (refusal, damage)) in DAMAGES.into_iter().enumerate() {
         for (_, other) in &DAMAGES[first..] {
-            let (mut loan, mut one) = (Loan::new(), Message::grant(3, 1, 9));
+            let (mut loan, mut one) = (Loan::new(), Message::operator_off(3, 9));
             other(&mut loan, &mut one);
             damage(&mut loan, &mut one);
             let before = loan.clone();
@@ -194,6 +214,8 @@ fn the_first_number() {
     let mut loan = Loan::new();
     assert_eq!(loan.preview(Message::grant(3, 2, 7).with_revision(2)), Err(Refusal::NotLater));
     assert_eq!(loan.preview(Message::grant(3, 2, 6).with_revision(256)), Err(Refusal::RevisionOver));
+    assert_eq!(loan.preview(Message::operator_on(1, 7).with_revision(2)), Err(Refusal::NotLater));
+    assert_eq!(loan.preview(Message { ride: 3, ..Message::operator_on(1, 6) }), Err(Refusal::UnusedField));
     assert_eq!(loan, Loan::new());
     assert!(loan.preview(Message::grant(3, 2, 7).with_revision(3)).is_ok());
     assert_eq!((loan.head, loan.spare_head), (Head { pairs: 6, ..loan.head }, Head { pairs: 7, ..loan.head }));
@@ -206,12 +228,15 @@ fn a_part_of_the_board_too_short() {
         let mut loan = Loan::new();
         let mut lengths = LENGTHS;
         lengths[part] -= 1;
-        let [operators, rides, stamps, revisions, index] = lengths;
+        let [operators, rides, stamps, revisions, index, presence_stamps, presence_revisions, presence] = lengths;
         loan.board.operators.truncate(operators);
         loan.board.rides.truncate(rides);
         loan.board.stamps.truncate(stamps);
         loan.board.revisions.truncate(revisions);
         loan.board.index.truncate(index);
+        loan.board.presence_stamps.truncate(presence_stamps);
+        loan.board.presence_revisions.truncate(presence_revisions);
+        loan.board.presence.truncate(presence);
         let before = loan.clone();
         assert_eq!(loan.preview(Message::grant(3, 1, 9)), Err(Refusal::PartShort), "part {part}");
         assert_eq!(loan, before, "part {part}");
@@ -228,8 +253,11 @@ fn previews_in_turn() {
     let mut head = Board::build(now.parts(), 200, 60, &pairs, 1).unwrap().head();
     for turn in 1..40 {
         let (operator, ride, stamp) = ((turn * 89 % 200) as u16, (turn * 37 % 60) as u16, turn + 1);
-        let (withdrawal, grant) = (Message::withdrawal(operator, ride, stamp), Message::grant(operator, ride, stamp));
-        for one in [withdrawal.with_revision(3), grant.with_revision(4)] {
+        let of_the_pair = [Message::withdrawal(operator, ride, stamp), Message::grant(operator, ride, stamp)];
+        let of_its_nodes = [Message::operator_off(operator, stamp), Message::ride_out(ride, stamp)];
+        for one in
+            of_the_pair.into_iter().chain(of_its_nodes).zip(3..).map(|(one, revision)| one.with_revision(revision))
+        {
             let (differ, after) = Board::attach(now.parts(), head).unwrap().preview(one, next.parts()).unwrap();
             assert_eq!(board.message(one), Ok(differ), "{one:?}");
             assert_eq!((after.head(), after.words()), (board.head(), board.words()), "{one:?}");

@@ -111,13 +111,7 @@ pub fn not_later(
     if message.kind <= 2 {
         return stamps::not_later(head, message, operators, rides, stamps, revisions);
     }
-    presence::not_later(
-        head,
-        message,
-        presence_stamps,
-        presence_revisions,
-        presence,
-    )
+    presence::not_later(head, message, presence_stamps, presence_revisions, presence)
 }
 
 // 1 to 9, 14, 15 and 10 of a message on a board whose own number, of 1 to 6, is known.

@@ -59,6 +59,10 @@ pub or-cases {ℓ} : {C : Type ℓ} (a b : Bool) → T (a || b) → (T a → C) 
 or-cases true b t f g = f tt
 or-cases false b t f g = g t
 
+pub and-true : (a : Bool) → (a && true) ≡ a
+and-true true = refl
+and-true false = refl
+
 pub or-false : (a : Bool) → (a || false) ≡ a
 or-false true = refl
 or-false false = refl

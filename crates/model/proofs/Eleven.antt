@@ -42,15 +42,15 @@ unfolding board-build
 build-code b start zero e = rw (e, board-build)
 build-code b start (suc k) e = rw (e, board-build)
 
-query-code : (h : Head) (index : List ℕ) (α β : ℕ) (marks : List ℕ) (k : ℕ) → query-refusal h index marks ≡ k → board-query h index α β marks .answer .code ≡ k
+query-code : (h : Head) (index presence : List ℕ) (α β : ℕ) (marks : List ℕ) (k : ℕ) → query-refusal h index presence marks ≡ k → board-query h index presence α β marks .answer .code ≡ k
 unfolding board-query counts
-query-code h index α β marks zero e = rw (e, board-query)
-query-code h index α β marks (suc k) e = rw (e, board-query)
+query-code h index presence α β marks zero e = rw (e, board-query)
+query-code h index presence α β marks (suc k) e = rw (e, board-query)
 
-peel-code : (h : Head) (operators rides marks : List ℕ) (α β allowed k : ℕ) → peel-refusal h operators rides marks ≡ k → board-peel h operators rides marks α β allowed .answer .code ≡ k
+peel-code : (h : Head) (operators rides presence marks : List ℕ) (α β allowed k : ℕ) → peel-refusal h operators rides presence marks ≡ k → board-peel h operators rides presence marks α β allowed .answer .code ≡ k
 unfolding board-peel peeled
-peel-code h operators rides marks α β allowed zero e = rw (e, board-peel)
-peel-code h operators rides marks α β allowed (suc k) e = rw (e, board-peel)
+peel-code h operators rides presence marks α β allowed zero e = rw (e, board-peel)
+peel-code h operators rides presence marks α β allowed (suc k) e = rw (e, board-peel)
 
 order-code : (ms : List Message) (at : ℕ) (b : Board) (answers : List ℕ) → in-order ms at b answers .code ≡ 0
 unfolding in-order
@@ -101,8 +101,8 @@ unfolding build-refusal query-refusal peel-refusal preview-refusal list-refusal
 never-eleven =
     record {
       build = λ b start e. first-lacks 11 (λ q. omega arith) _ tt (sym (build-code b start _ refl) ∙ e);
-      query = λ h index α β marks e. first-lacks 11 (λ q. omega arith) _ tt (sym (query-code h index α β marks _ refl) ∙ e);
-      peel = λ h operators rides marks α β allowed e. first-lacks 11 (λ q. omega arith) _ tt (sym (peel-code h operators rides marks α β allowed _ refl) ∙ e);
+      query = λ h index presence α β marks e. first-lacks 11 (λ q. omega arith) _ tt (sym (query-code h index presence α β marks _ refl) ∙ e);
+      peel = λ h operators rides presence marks α β allowed e. first-lacks 11 (λ q. omega arith) _ tt (sym (peel-code h operators rides presence marks α β allowed _ refl) ∙ e);
       message = message-never;
       preview = λ b m spare e. first-lacks 11 (λ q. omega arith) _ tt (sym (preview-code b m spare) ∙ e);
       messages = λ b ms answers e. first-lacks 11 (λ q. omega arith) _ tt (sym (list-code b ms answers _ refl) ∙ e);

@@ -1,6 +1,7 @@
--- Demand 2 of the calls: a query on the index of any clearances, and a peel from all ones, give the (α, β)-core of Definition 2.1. Assumes nothing.
+-- Demand 2 of the calls: a query on the index of any clearances that count, and a peel, give the (α, β)-core of Definition 2.1 of those present.
+-- Assumes nothing.
 use mathlib.Core.Path.{_≡_, refl, sym, ap, _∙_, subst}
-use mathlib.Core.Bool.{Bool, _||_}
+use mathlib.Core.Bool.{Bool, true, false, _&&_, _||_}
 use mathlib.Core.List.{List, [], _++_}
 use Prim.Native.Nat.{ℕ, suc, _+_, _-_, _*_, _≤_, _<_}
 use native.Mathlib.Omega.{arith}
@@ -9,19 +10,65 @@ use native.Mathlib.Nat.{suc-mul, mul-le-mul-right}
 use lib.Dec.{T, ltb, eqb, ltb→lt}
 use lib.ListN.{length, getD, drop, length-append, List·getD-append}
 use Rattle.model.specs.declared.Head.{Head}
-use Rattle.model.specs.Count.{bit}
-use Rattle.model.specs.Graph.{Graph, nodes, limits, Core, marked, settled, peel, level, row-for, in-by-level, index-of}
-use Rattle.model.specs.Layout.{Operators, Rides, Index, Board, pair-places, mark-places, index-places, over, sized, graph, board-graph}
-use Rattle.model.specs.Contents.{words}
+use Rattle.model.specs.Count.{bit, values}
+use Rattle.model.specs.Graph.{Graph, nodes, Largest, limits, CoreInside, marked, present, counting, settled, peel, level, row-for, in-by-level, index-of}
+use Rattle.model.specs.Layout.{Operators, Rides, Index, Presence, Board, pair-places, mark-places, index-places, over, sized, counting-graph, listed-graph, board-graph}
+use Rattle.model.specs.Contents.{Pair, Operator, Ride, gives, Contents, counted, node-slot, words}
 use Rattle.model.specs.Refusal.{refused-1, refused-2, refused-3, refused-12, build-refusal, query-refusal, peel-refusal}
-use Rattle.model.specs.Calls.{built, board-build, level-read, query-marks, counts, board-query, peeled, board-peel}
-use Rattle.model.specs.Demand.{AllOnes, IsCore, IndexThenQuery, BuildThenQuery, PeelIsCore}
-use Rattle.model.proofs.Count.{test-true, bit-test, or-cases, count-le, count-ext, some-witness, values-ext, length-values, length-rows}
-use Rattle.model.proofs.Peel.{peel-laws}
-use Rattle.model.proofs.Cover.{peeled-core}
-use Rattle.model.proofs.Query.{core-ext, level-there, level-missing, query-in, query-is-core}
+use Rattle.model.specs.Calls.{start-contents, built, board-build, level-read, query-marks, counts, board-query, peel-limits, peeled, board-peel}
+use Rattle.model.specs.Demand.{AllOnes, IsCore, IndexThenQuery, BuildThenQuery, PeelIsLargest, IsPeeledCore, PeelIsCore}
+use Rattle.model.proofs.Count.{test-true, bit-test, and-true, or-cases, count-le, count-ext, some-witness, length-values, getD-values, values-ext, length-rows}
+use Rattle.model.proofs.Peel.{all-marked, peel-laws}
+use Rattle.model.proofs.Level.{index-same}
+use Rattle.model.proofs.Presence.{largest-inside, all-count, core-all, largest-start}
+use Rattle.model.proofs.Query.{largest-ext, level-there, level-missing, query-in, query-is-core}
 use Rattle.model.proofs.Chain.{first-nil, first-skip, not-less}
 use Rattle.model.proofs.Refusal.{AcceptedTable, table-skip, build-none}
+
+-- ---- what a build leaves
+
+module _ (b : Board) (start : ℕ) (none : build-refusal b start ≡ 0) where
+  abbrev started : Contents
+  started = start-contents (listed-graph b) start
+
+  -- all pairs count
+  all-counted : (u v : ℕ) → listed-graph b .cleared u v ≡ counted started u v
+  all-counted u v = sym (and-true (gives (started (Pair u v))) ∙ bit-test (listed-graph b .cleared u v))
+
+  built-index : board-build b start .board .part Index ≡ over (index-of (listed-graph b)) (b .part Index)
+  unfolding board-build built words
+  built-index = rw (none, board-build) (ap (λ (i : List ℕ). over i (b .part Index)) (index-same (listed-graph b) (counted started) (λ u v p q. all-counted u v)))
+
+  node-one : (x : ℕ) → started (node-slot (b .head) x) .word ≡ 1
+  node-one x = go (ltb x (b .head .operators))
+    where
+      go : (t : Bool) → started (elim t [ true ↦ Operator x | false ↦ Ride (x - b .head .operators) ]) .word ≡ 1
+      go true = refl
+      go false = refl
+
+  abbrev presence : List ℕ
+  presence = board-build b start .board .part Presence
+
+  -- the words of operators and rides
+  abbrev ones : List ℕ
+  ones = values (mark-places (b .head)) (λ x. started (node-slot (b .head) x) .word)
+
+  ones-long : length ones ≡ mark-places (b .head)
+  ones-long = length-values (λ x. started (node-slot (b .head) x) .word) (mark-places (b .head))
+
+  built-words : board-build b start .board .part Presence ≡ over ones (b .part Presence)
+  unfolding board-build built words
+  built-words = rw (none, board-build)
+
+  -- everybody is on and in
+  built-present : (x : ℕ) → x < mark-places (b .head) → T (present presence x)
+  built-present x l =
+      subst (λ (k : ℕ). T (eqb k 1))
+      (sym (ap (λ (p : List ℕ). getD p x 0) built-words ∙ List·getD-append ones (drop (length ones) (b .part Presence)) 0 x (omega (arith, ones-long)) ∙ getD-values (λ y. started (node-slot (b .head) y) .word) (mark-places (b .head)) x 0 l ∙ node-one x))
+      tt
+
+  presence-long : mark-places (b .head) ≤ length presence
+  presence-long = omega (arith, ap length built-words, length-append ones (drop (length ones) (b .part Presence)), ones-long)
 
 -- ---- query
 
@@ -29,14 +76,12 @@ length-index : (g : Graph) → length (index-of g) ≡ g .rides * nodes g
 unfolding index-of
 length-index g = length-rows (nodes g) (λ (a x : ℕ). level g (suc a) x) (g .rides)
 
--- the index that a build leaves
-built-index : (b : Board) (start : ℕ) → build-refusal b start ≡ 0 → board-build b start .board .part Index ≡ over (index-of (board-graph b)) (b .part Index)
-unfolding board-build built words
-built-index b start e = rw (e, board-build)
+module _ (h : Head) (d : ℕ → ℕ → Bool) (presence more : List ℕ) (α β : ℕ) (marks : List ℕ) (few : h .operators ≤ 200) (few′ : h .rides ≤ 60) (here-long : mark-places h ≤ length presence) (long : mark-places h ≤ length marks) where
+  abbrev here : ℕ → Bool
+  here = present presence
 
-module _ (h : Head) (d : ℕ → ℕ → Bool) (more : List ℕ) (α β : ℕ) (marks : List ℕ) (few : h .operators ≤ 200) (few′ : h .rides ≤ 60) (long : mark-places h ≤ length marks) where
   abbrev g : Graph
-  g = sized h d
+  g = counting (sized h d) here
 
   abbrev index : List ℕ
   index = index-of g ++ more
@@ -45,12 +90,15 @@ module _ (h : Head) (d : ℕ → ℕ → Bool) (more : List ℕ) (α β : ℕ) (
   index-long = omega (arith, length-append (index-of g) more, length-index g)
 
   -- none of the query's numbers applies
-  query-none : query-refusal h index marks ≡ 0
+  query-none : query-refusal h index presence marks ≡ 0
   unfolding query-refusal
   query-none =
+      let i : Bool = refused-3 (index-places h) index in
+      let p : Bool = refused-3 (mark-places h) presence in
+      let m : Bool = refused-3 (mark-places h) marks in
       first-skip 1 (refused-1 h) _ (not-less 200 (h .operators) few) ∙
       first-skip 2 (refused-2 h) _ (not-less 60 (h .rides) few′) ∙
-      first-skip 3 (refused-3 (index-places h) index || refused-3 (mark-places h) marks) _ (λ s. or-cases (refused-3 (index-places h) index) (refused-3 (mark-places h) marks) s (not-less (length index) (index-places h) index-long) (not-less (length marks) (mark-places h) long)) ∙
+      first-skip 3 (i || p || m) _ (λ s. or-cases (i || p) m s (λ t. or-cases i p t (not-less (length index) (index-places h) index-long) (not-less (length presence) (mark-places h) here-long)) (not-less (length marks) (mark-places h) long)) ∙
       first-nil
 
   -- a row of the index lies inside its first words
@@ -64,65 +112,95 @@ module _ (h : Head) (d : ℕ → ℕ → Bool) (more : List ℕ) (α β : ℕ) (
         | no k ↦ level-missing h index α (omega arith) x ∙ sym (level-missing h (index-of g) α (omega arith) x)
       ]
 
-  same-marks : query-marks h index α β ≡ query-marks h (index-of g) α β
+  same-marks : query-marks h index presence α β ≡ query-marks h (index-of g) presence α β
   unfolding query-marks
   same-marks =
-      values-ext (λ (x : ℕ). bit (query-in h index α β x)) (λ (x : ℕ). bit (query-in h (index-of g) α β x)) (mark-places h)
-      (λ x l. ap (λ (z : ℕ). bit (in-by-level (limits (h .operators) α β x) β z)) (word x l))
+      values-ext (λ (x : ℕ). bit (query-in h index presence α β x)) (λ (x : ℕ). bit (query-in h (index-of g) presence α β x)) (mark-places h)
+      (λ x l. ap (λ (z : ℕ). bit (here x && in-by-level (limits (h .operators) α β x) β z)) (word x l))
 
-  marks-long : length (query-marks h index α β) ≡ mark-places h
+  marks-long : length (query-marks h index presence α β) ≡ mark-places h
   unfolding query-marks
-  marks-long = length-values (λ (x : ℕ). bit (query-in h index α β x)) (mark-places h)
+  marks-long = length-values (λ (x : ℕ). bit (query-in h index presence α β x)) (mark-places h)
 
   -- the lent marks show what was set
-  shown : (x : ℕ) → x < mark-places h → marked (query-marks h index α β) x ≡ marked (over (query-marks h index α β) marks) x
-  shown x l = ap (λ (z : ℕ). eqb z 1) (sym (List·getD-append (query-marks h index α β) (drop (length (query-marks h index α β)) marks) 0 x (omega (arith, marks-long))))
+  shown : (x : ℕ) → x < mark-places h → marked (query-marks h index presence α β) x ≡ marked (over (query-marks h index presence α β) marks) x
+  shown x l = ap (λ (z : ℕ). eqb z 1) (sym (List·getD-append (query-marks h index presence α β) (drop (length (query-marks h index presence α β)) marks) 0 x (omega (arith, marks-long))))
 
-  outcome : IsCore g α β (board-query h index α β marks)
+  outcome : IsCore g here α β (board-query h index presence α β marks)
   unfolding board-query counts
   outcome =
       rw (query-none, board-query)
       (record {
         code = refl;
-        core = core-ext g α β (marked (query-marks h index α β)) (marked (over (query-marks h index α β) marks)) shown (subst (λ (z : List ℕ). Core g α β (marked z)) (sym same-marks) (query-is-core h (g .cleared) α β));
-        operators = count-ext (marked (query-marks h index α β)) (marked (over (query-marks h index α β) marks)) (h .operators) (λ x l. shown x (omega arith));
-        rides = count-ext (λ (v : ℕ). marked (query-marks h index α β) (h .operators + v)) (λ (v : ℕ). marked (over (query-marks h index α β) marks) (h .operators + v)) (h .rides) (λ v l. shown (h .operators + v) (omega arith));
+        core = largest-ext g (limits (h .operators) α β) here (marked (query-marks h index presence α β)) (marked (over (query-marks h index presence α β) marks)) shown (subst (λ (z : List ℕ). CoreInside g here α β (marked z)) (sym same-marks) (query-is-core h d presence α β));
+        operators = count-ext (marked (query-marks h index presence α β)) (marked (over (query-marks h index presence α β) marks)) (h .operators) (λ x l. shown x (omega arith));
+        rides = count-ext (λ (v : ℕ). marked (query-marks h index presence α β) (h .operators + v)) (λ (v : ℕ). marked (over (query-marks h index presence α β) marks) (h .operators + v)) (h .rides) (λ v l. shown (h .operators + v) (omega arith));
       })
 
 pub index-then-query : IndexThenQuery
-index-then-query h d more α β marks few few′ long = outcome h d more α β marks few few′ long
+index-then-query h d presence more α β marks few few′ here-long long = outcome h d presence more α β marks few few′ here-long long
 
 pub build-then-query : BuildThenQuery
 build-then-query b start α β marks none long =
     let t = build-none b start none .0 in
-    let g : Graph = board-graph b in
-    subst (λ (i : List ℕ). IsCore g α β (board-query (b .head) i α β marks)) (sym (built-index b start none)) (outcome (b .head) (g .cleared) (drop (length (index-of g)) (b .part Index)) α β marks (t .few-operators) (t .few-rides) long)
+    let g : Graph = listed-graph b in
+    let here : ℕ → Bool = present (presence b start none) in
+    let all = built-present b start none in
+    let more : List ℕ = drop (length (index-of g)) (b .part Index) in
+    let same : index-of (counting g here) ≡ index-of g = index-same g (counting g here .cleared) (λ u v p q. sym (all-count g here all u v p q)) in
+    let o = outcome (b .head) (g .cleared) (presence b start none) more α β marks (t .few-operators) (t .few-rides) (presence-long b start none) long in
+    let c = subst (λ (i : List ℕ). IsCore (counting g here) here α β (board-query (b .head) i (presence b start none) α β marks)) (ap (λ (i : List ℕ). i ++ more) same ∙ sym (built-index b start none)) o in
+    record { code = c .code; core = core-all g here all α β _ (c .core); operators = c .operators; rides = c .rides }
 
 -- ---- peel
 
 -- from all ones, on a board to which 1 to 5 do not apply, none of the peel's numbers applies
-pub peel-none : (b : Board) (marks : List ℕ) → AcceptedTable b → mark-places (b .head) ≤ length marks → AllOnes (board-graph b) marks → peel-refusal (b .head) (b .part Operators) (b .part Rides) marks ≡ 0
+pub peel-none : (b : Board) (marks : List ℕ) → AcceptedTable b → mark-places (b .head) ≤ length marks → AllOnes (board-graph b) marks → peel-refusal (b .head) (b .part Operators) (b .part Rides) (b .part Presence) marks ≡ 0
 unfolding peel-refusal refused-12
 peel-none b marks t long ones =
     let h : Head = b .head in
     let o : Bool = refused-3 (pair-places h) (b .part Operators) in
     let r : Bool = refused-3 (pair-places h) (b .part Rides) in
+    let p : Bool = refused-3 (mark-places h) (b .part Presence) in
     let m : Bool = refused-3 (mark-places h) marks in
-    let short : T (o || r || m) → ⊥ = λ s. or-cases (o || r) m s (λ k. or-cases o r k (not-less (length (b .part Operators)) (pair-places h) (t .long Operators)) (not-less (length (b .part Rides)) (pair-places h) (t .long Rides))) (not-less (length marks) (mark-places h) long) in
+    let short : T (o || r || p || m) → ⊥ = λ s. or-cases (o || r || p) m s (λ q. or-cases (o || r) p q (λ k. or-cases o r k (not-less (length (b .part Operators)) (pair-places h) (t .long Operators)) (not-less (length (b .part Rides)) (pair-places h) (t .long Rides))) (not-less (length (b .part Presence)) (mark-places h) (t .long Presence))) (not-less (length marks) (mark-places h) long) in
     let unknown : T (refused-12 h marks) → ⊥ = λ s. let w = some-witness (λ (x : ℕ). ltb 1 (getD marks x 0)) (mark-places h) s in omega (arith, ltb→lt 1 (getD marks (w .0) 0) (w .2), ones (w .0) (w .1)) in
-    table-skip b (o || r || m) _ t short ∙
+    table-skip b (o || r || p || m) _ t short ∙
     first-skip 12 (refused-12 h marks) [] unknown ∙
     first-nil
 
+module _ (h : Head) (operators rides presence marks : List ℕ) (α β allowed : ℕ) (none : peel-refusal h operators rides presence marks ≡ 0) where
+  abbrev pairs : Graph
+  pairs = counting-graph h operators rides presence
+
+  abbrev limit : ℕ → ℕ
+  limit = peel-limits h presence α β
+
+  abbrev done : Bool
+  done = settled pairs limit (peel pairs limit allowed marks)
+
+  peeled-largest : bit done ≡ 1 → Largest pairs (limits (h .operators) α β) (λ x. marked marks x && present presence x) (marked (peel pairs limit allowed marks))
+  peeled-largest e =
+      largest-inside pairs (present presence) (limits (h .operators) α β) (marked marks) (marked (peel pairs limit allowed marks))
+      (peel-laws .largest pairs limit allowed marks (subst T (bit-test done) (subst (λ (z : ℕ). T (eqb z 1)) (sym e) tt)))
+
+  settled-largest : board-peel h operators rides presence marks α β allowed .answer .settled ≡ 1 → Largest pairs (limits (h .operators) α β) (λ x. marked marks x && present presence x) (marked (board-peel h operators rides presence marks α β allowed .marks))
+  unfolding board-peel peeled
+  settled-largest = rw (none, board-peel) peeled-largest
+
+  all-peeled : AllOnes pairs marks → IsPeeledCore pairs (present presence) α β allowed (board-peel h operators rides presence marks α β allowed)
+  unfolding board-peel peeled
+  all-peeled ones =
+      rw (none, board-peel)
+      (record {
+        code = refl;
+        core = λ e. largest-start pairs (limits (h .operators) α β) (λ x. marked marks x && present presence x) (present presence) (marked (peel pairs limit allowed marks)) (λ x l. ap (λ (z : Bool). z && present presence x) (test-true (marked marks x) (all-marked pairs marks ones x l))) (peeled-largest e);
+        steps = peel-laws .steps-from-all pairs limit allowed marks ones;
+        settles = λ l. ap bit (test-true done (peel-laws .settles pairs limit allowed marks (omega (arith, count-le (marked marks) (nodes pairs)))));
+      })
+
+pub peel-is-largest : PeelIsLargest
+peel-is-largest = settled-largest
+
 pub peel-is-core : PeelIsCore
-unfolding board-peel peeled
-peel-is-core h operators rides marks α β allowed none ones =
-    let g : Graph = graph h operators rides in
-    let done : Bool = settled g (limits (g .operators) α β) (peel g (limits (g .operators) α β) allowed marks) in
-    rw (none, board-peel)
-    (record {
-      code = refl;
-      core = λ e. peeled-core g α β allowed marks ones (subst T (bit-test done) (subst (λ (z : ℕ). T (eqb z 1)) (sym e) tt));
-      steps = peel-laws .steps-from-all g (limits (g .operators) α β) allowed marks ones;
-      settles = λ l. ap bit (test-true done (peel-laws .settles g (limits (g .operators) α β) allowed marks (omega (arith, count-le (marked marks) (nodes g)))));
-    })
+peel-is-core = all-peeled

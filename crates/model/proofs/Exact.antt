@@ -10,16 +10,17 @@ use lib.Arith.{digits-lt}
 use lib.ListN.{length, getD, drop, List·getD-append}
 use Rattle.model.specs.declared.Head.{Head}
 use Rattle.model.specs.declared.Message.{Message}
-use Rattle.model.specs.Layout.{Part, Operators, Rides, Stamps, Revisions, Index, Parts, Board, pair-places, index-places, places, of-parts, exact, board-graph, differing}
-use Rattle.model.specs.Contents.{Slot, Pair, Entry, later, slot, entry, put, same-slot, contents, pair-place, words, board-of}
+use Rattle.model.specs.Count.{bit}
+use Rattle.model.specs.Layout.{Part, Operators, Rides, Stamps, Revisions, Index, PresenceStamps, PresenceRevisions, Presence, Parts, Board, pair-places, mark-places, index-places, places, of-parts, exact, listed-graph, differing}
+use Rattle.model.specs.Contents.{Slot, Pair, Operator, Ride, Entry, later, slot, entry, put, same-slot, contents, pair-place, ride-place, entry-at, words, board-of}
 use Rattle.model.specs.Refusal.{refused-1, refused-2, refused-4, refused-5, refused-6, refused-10, before, out-of-range, misplaced, board-short, valid-cases, message-refusal}
 use Rattle.model.specs.Message.{MessageOutcome, board-after, board-message}
 use Rattle.model.proofs.Count.{count-ext, some-ext}
 use Rattle.model.proofs.Chain.{first-same, behind-same, enough}
 use Rattle.model.proofs.Pairs.{graph-same, table-pairs}
-use Rattle.model.proofs.Contents.{Within, length-words, board-of-same, exact-onto}
-use Rattle.model.proofs.Refusal.{valid-none}
-use Rattle.model.proofs.Taken.{message-taken, valid-within}
+use Rattle.model.proofs.Contents.{length-words, board-of-same, exact-onto}
+use Rattle.model.proofs.Refusal.{Within, valid-none}
+use Rattle.model.proofs.Taken.{message-taken}
 
 module _ (h : Head) (a a′ : Parts) (same : (p : Part) (i : ℕ) → i < places h p → getD (a p) i 0 ≡ getD (a′ p) i 0) where
   abbrev b : Board
@@ -31,7 +32,7 @@ module _ (h : Head) (a a′ : Parts) (same : (p : Part) (i : ℕ) → i < places
   -- ---- the tests
 
   module _ (fit : h .pairs ≤ pair-places h) where
-    same-graph : board-graph b ≡ board-graph b′
+    same-graph : listed-graph b ≡ listed-graph b′
     same-graph = graph-same h (a Operators) (a Rides) (a′ Operators) (a′ Rides) (λ i l. same Operators i (omega arith)) (λ i l. same Rides i (omega arith))
 
     same-misplaced : (i : ℕ) → i < h .pairs → misplaced h (a Operators) (a Rides) i ≡ misplaced h (a′ Operators) (a′ Rides) i
@@ -60,11 +61,20 @@ module _ (h : Head) (a a′ : Parts) (same : (p : Part) (i : ℕ) → i < places
         (same-stamp (getD (a Operators) i 0) (getD (a Rides) i 0) (ps .operator i l) (ps .ride i l) ∙
         ap₂ (λ (u v : ℕ). getD (a′ Stamps) (pair-place h u v) 0) (same Operators i (omega arith)) (same Rides i (omega arith))))
 
+    same-entry : (x : ℕ) → x < mark-places h → entry-at b x ≡ entry-at b′ x
+    same-entry x l =
+        let stamp = same PresenceStamps x l in
+        let revision = same PresenceRevisions x l in
+        let word = same Presence x l in
+        λ j. record { stamp = stamp j; revision = revision j; word = word j }
+
     same-contents : (t : Slot) → Within h t → contents b t ≡ contents b′ t
     same-contents (Pair u v) w =
         let stamp = same-stamp u v (w .0) (w .1) in
         let revision = same Revisions (pair-place h u v) (digits-lt (w .0) (w .1)) in
-        λ j. record { stamp = stamp j; revision = revision j; gives = same-graph j .cleared u v }
+        λ j. record { stamp = stamp j; revision = revision j; word = bit (same-graph j .cleared u v) }
+    same-contents (Operator u) w = same-entry u (omega arith)
+    same-contents (Ride v) w = same-entry (ride-place h v) (omega arith)
 
     same-10 : (m : Message) → Within h (slot m) → refused-10 b m ≡ refused-10 b′ m
     unfolding refused-10
@@ -108,7 +118,7 @@ module _ (h : Head) (a a′ : Parts) (same : (p : Part) (i : ℕ) → i < places
       first-same 5 (refused-5 h (a Operators) (a Rides)) (refused-5 h (a′ Operators) (a′ Rides)) _ _ (same-5 fit) (λ n5.
       first-same 6 (refused-6 b) (refused-6 b′) _ _ (same-6 fit n5) (λ n6.
       behind-same _ _ (valid-cases h m) (λ none.
-      first-same 10 (refused-10 b m) (refused-10 b′ m) [] [] (same-10 fit m (valid-within h m (valid-none h m none))) (λ n10. refl))))))))
+      first-same 10 (refused-10 b m) (refused-10 b′ m) [] [] (same-10 fit m (valid-none h m none .within)) (λ n10. refl))))))))
 
   -- a taken message has the same answer, and leaves the same words
   pub same-message : (m : Message) → h .pairs ≤ pair-places h → message-refusal b m ≡ 0 → message-refusal b′ m ≡ 0 → (board-message b m .answer ≡ board-message b′ m .answer) × (exact (board-message b m .board) ≡ exact (board-message b′ m .board))

@@ -104,7 +104,7 @@ level-from-zero g α β x h =
 
 -- where the clearances c have all of g, degrees, covers and levels are at least those of g
 module _ (g : Graph) (c : ℕ → ℕ → Bool) (more : (u v : ℕ) → u < g .operators → v < g .rides → T (g .cleared u v) → T (c u v)) where
-  degree-more : (s : ℕ → Bool) (x : ℕ) → x < nodes g → degree g s x ≤ degree (changed g c) s x
+  pub degree-more : (s : ℕ → Bool) (x : ℕ) → x < nodes g → degree g s x ≤ degree (changed g c) s x
   degree-more s x h =
       elim (decLt x (g .operators)) [
         | yes l ↦

@@ -6,6 +6,7 @@ pub mod Cover
 pub mod Zero
 pub mod Level
 pub mod Change
+pub mod Presence
 pub mod Query
 pub mod Pairs
 pub mod Chain
@@ -18,4 +19,4 @@ pub mod EndToEnd
 pub mod Preview
 pub mod Eleven
 pub mod Samples
-pub mod Revisions
+pub mod Entries

@@ -6,18 +6,21 @@ use mathlib.Core.List.{List, [], _∷_, List·Memᴰ, List·Memᴰ·cases-cons, 
 use Prim.Native.Nat.{_≤_, _<_}
 use lib.Dec.{T}
 use lib.ListN.{length}
-use Rattle.model.specs.Layout.{Part, Operators, Rides, Stamps, Revisions, Index, Board, places, all-parts, some-part}
+use Rattle.model.specs.Layout.{Part, Operators, Rides, Stamps, Revisions, Index, PresenceStamps, PresenceRevisions, Presence, Board, places, all-parts, some-part}
 use Rattle.model.specs.Refusal.{refused-3, board-short}
 use Rattle.model.proofs.Count.{or-left, or-right, or-cases}
 use Rattle.model.proofs.Chain.{enough, not-less, lt-less}
 
 -- one argument for each part
-pub by-part {ℓ} : (P : Part → Type ℓ) → P Operators → P Rides → P Stamps → P Revisions → P Index → (p : Part) → P p
-by-part P o r s v i Operators = o
-by-part P o r s v i Rides = r
-by-part P o r s v i Stamps = s
-by-part P o r s v i Revisions = v
-by-part P o r s v i Index = i
+pub by-part {ℓ} : (P : Part → Type ℓ) → P Operators → P Rides → P Stamps → P Revisions → P Index → P PresenceStamps → P PresenceRevisions → P Presence → (p : Part) → P p
+by-part P o r s v i t c w Operators = o
+by-part P o r s v i t c w Rides = r
+by-part P o r s v i t c w Stamps = s
+by-part P o r s v i t c w Revisions = v
+by-part P o r s v i t c w Index = i
+by-part P o r s v i t c w PresenceStamps = t
+by-part P o r s v i t c w PresenceRevisions = c
+by-part P o r s v i t c w Presence = w
 
 -- each part is one of all
 part-in : (p : Part) → List·Memᴰ p all-parts
@@ -28,6 +31,9 @@ part-in =
     (List·Memᴰ·tail (List·Memᴰ·tail (List·Memᴰ·head refl)))
     (List·Memᴰ·tail (List·Memᴰ·tail (List·Memᴰ·tail (List·Memᴰ·head refl))))
     (List·Memᴰ·tail (List·Memᴰ·tail (List·Memᴰ·tail (List·Memᴰ·tail (List·Memᴰ·head refl)))))
+    (List·Memᴰ·tail (List·Memᴰ·tail (List·Memᴰ·tail (List·Memᴰ·tail (List·Memᴰ·tail (List·Memᴰ·head refl))))))
+    (List·Memᴰ·tail (List·Memᴰ·tail (List·Memᴰ·tail (List·Memᴰ·tail (List·Memᴰ·tail (List·Memᴰ·tail (List·Memᴰ·head refl)))))))
+    (List·Memᴰ·tail (List·Memᴰ·tail (List·Memᴰ·tail (List·Memᴰ·tail (List·Memᴰ·tail (List·Memᴰ·tail (List·Memᴰ·tail (List·Memᴰ·head refl))))))))
 
 module _ (f : Part → Bool) where
   -- no part passes the test where none of the list does

@@ -9,7 +9,8 @@ use lib.Dec.{T, ltb}
 use lib.ListN.{length, getD, take, drop, length-append, List·getD-append}
 use lib.Seq.{length-take-le, getD-take, drop-at}
 use Rattle.model.specs.declared.Message.{Message}
-use Rattle.model.specs.Layout.{Part, Operators, Rides, Index, Parts, Board, mark-places, places, all-parts, some-part, of-parts, exact, copied, board-graph}
+use Rattle.model.specs.Graph.{present}
+use Rattle.model.specs.Layout.{Part, Operators, Rides, Index, Presence, Parts, Board, mark-places, places, all-parts, some-part, of-parts, exact, copied, listed-graph, board-graph}
 use Rattle.model.specs.Contents.{Contents, slot, entry, put, contents, words}
 use Rattle.model.specs.Refusal.{refused-1, refused-2, first-number, board-short, board-cases, message-cases, message-refusal, preview-refusal}
 use Rattle.model.specs.Calls.{board-query}
@@ -118,7 +119,7 @@ module _ (b : Board) (m : Message) (spare : Board) where
   sent z =
       let e = refusal-none z in
       let n = preview-none b m (spare .part) e in
-      let fit = pairs-fit (b .head) (b .part Operators) (b .part Rides) (board-graph b .cleared) (n .0 .table .pairs) in
+      let fit = pairs-fit (b .head) (b .part Operators) (b .part Rides) (listed-graph b .cleared) (n .0 .table .pairs) in
       let s = same-message (b .head) (b .part) (copied b (spare .part) .part) (same-copy b (spare .part) (n .0 .table .long)) m fit (n .2) (copy-taken b m (spare .part) e) in
       let t = preview-taken e in
       (s .0 ∙ ap (λ (o : MessageOutcome). o .answer) (sym t), s .1 ∙ ap (λ (o : MessageOutcome). exact (o .board)) (sym t))
@@ -175,21 +176,21 @@ preview-laws b m spare =
 
 -- ---- a query of the spare board
 
--- each query of the board after a taken message gives the core of the pairs that it lists
-message-then-query : (b : Board) (m : Message) (α β : ℕ) (marks : List ℕ) → message-refusal b m ≡ 0 → mark-places (b .head) ≤ length marks → IsCore (board-graph (board-after b m)) α β (board-query (board-after b m .head) (board-after b m .part Index) α β marks)
+-- each query of the board after a taken message gives the core of its pairs that count, of those present
+message-then-query : (b : Board) (m : Message) (α β : ℕ) (marks : List ℕ) → message-refusal b m ≡ 0 → mark-places (b .head) ≤ length marks → IsCore (board-graph (board-after b m)) (present (board-after b m .part Presence)) α β (board-query (board-after b m .head) (board-after b m .part Index) (board-after b m .part Presence) α β marks)
 unfolding board-after
 message-then-query b m α β marks e long =
     let a = taken-none b m e .0 .table in
     let left : Board = board-after b m in
     let s : Contents = put (contents b) (slot m) (entry m) in
     let more : Parts = λ p. drop (length (words (b .head) s p)) (b .part p) in
-    subst (λ (i : List ℕ). IsCore (board-graph left) α β (board-query (left .head) (i ++ more Index) α β marks)) (sym (index-words (b .head) s more))
-    (index-then-query (left .head) (board-graph left .cleared) (more Index) α β marks (a .few-operators) (a .few-rides) long)
+    subst (λ (i : List ℕ). IsCore (board-graph left) (present (left .part Presence)) α β (board-query (left .head) (i ++ more Index) (left .part Presence) α β marks)) (sym (index-words (b .head) s more))
+    (index-then-query (left .head) (listed-graph left .cleared) (left .part Presence) (more Index) α β marks (a .few-operators) (a .few-rides) (omega (arith, length-append (words (b .head) s Presence) (more Presence), length-words (b .head) s Presence)) long)
 
 pub preview-then-query : PreviewThenQuery
 unfolding copied
 preview-then-query b m spare α β marks z long =
     let e = refusal-none b m spare z in
     let c : Board = copied b (spare .part) in
-    subst (λ (o : MessageOutcome). IsCore (board-graph (o .board)) α β (board-query (o .board .head) (o .board .part Index) α β marks)) (sym (preview-taken b m spare e ∙ message-taken c m (copy-taken b m (spare .part) e)))
+    subst (λ (o : MessageOutcome). IsCore (board-graph (o .board)) (present (o .board .part Presence)) α β (board-query (o .board .head) (o .board .part Index) (o .board .part Presence) α β marks)) (sym (preview-taken b m spare e ∙ message-taken c m (copy-taken b m (spare .part) e)))
     (message-then-query c m α β marks (copy-taken b m (spare .part) e) long)

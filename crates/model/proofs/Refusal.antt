@@ -1,18 +1,19 @@
--- Laws of the numbers 1 to 10 and 14: boards to which 1 to 6 do not apply, and valid messages. Assumes nothing.
-use mathlib.Core.Path.{_≡_, ap₂, _∙_, subst}
-use mathlib.Core.Bool.{Bool, _||_}
+-- Laws of the numbers 1 to 10, 14 and 15: boards to which 1 to 6 do not apply, and valid messages. Assumes nothing.
+use mathlib.Core.Path.{_≡_, sym, ap₂, _∙_, subst}
+use mathlib.Core.Bool.{Bool, _&&_, _||_}
 use mathlib.Core.List.{List, [], _∷_, _++_}
 use Prim.Native.Nat.{ℕ, _≤_, _<_}
 use native.Mathlib.Omega.{arith}
-use native.Mathlib.Decide.{decLt, decLe, ℕ-discrete}
+use native.Mathlib.Decide.{decLt, decLe}
 use lib.Dec.{T, leb, eqb, leb→le, le→leb, eqb→eq, eqb-refl, T-not, not-T}
+use borrow.Author.Tests.{le-leb, lt-leb, eq-eqb}
 use lib.ListN.{length, getD}
 use Rattle.model.specs.declared.Head.{Head}
 use Rattle.model.specs.declared.Message.{Message}
-use Rattle.model.specs.Layout.{Part, Operators, Rides, Stamps, Board, pair-places, places, board-graph}
-use Rattle.model.specs.Contents.{pair-place}
-use Rattle.model.specs.Refusal.{refused-1, refused-2, refused-3, refused-4, refused-5, refused-6, refused-7, refused-8, refused-9, refused-10, refused-14, first-number, board-short, table-cases, valid-cases, message-cases, build-refusal, message-refusal, list-refusal}
-use Rattle.model.proofs.Count.{by-test, or-left, or-right, or-cases, some-holds, some-witness}
+use Rattle.model.specs.Layout.{Part, Operators, Rides, Stamps, Board, pair-places, places, listed-graph}
+use Rattle.model.specs.Contents.{Slot, Pair, Operator, Ride, slot, pair-place}
+use Rattle.model.specs.Refusal.{refused-1, refused-2, refused-3, refused-4, refused-5, refused-6, refused-7, refused-8, refused-9, refused-10, refused-14, refused-15, outside, unused, first-number, board-short, table-cases, valid-cases, message-cases, build-refusal, message-refusal, list-refusal}
+use Rattle.model.proofs.Count.{by-test, and-left, and-right, and-both, or-left, or-right, or-cases, some-holds, some-witness}
 use Rattle.model.proofs.Chain.{Positive, first-nil, first-here, first-skip, first-none, first-behind, first-split, enough, not-less}
 use Rattle.model.proofs.Parts.{board-long, long-board}
 use Rattle.model.proofs.Pairs.{Pairs, listed-place, table-pairs, pairs-fit, pairs-accepted}
@@ -24,12 +25,12 @@ pub record AcceptedTable (b : Board) : Type 0 where
   pub few-operators : b .head .operators ≤ 200
   pub few-rides : b .head .rides ≤ 60
   pub long : (p : Part) → places (b .head) p ≤ length (b .part p)
-  pub pairs : Pairs (board-graph b) (b .head .pairs) (b .part Operators) (b .part Rides)
+  pub pairs : Pairs (listed-graph b) (b .head .pairs) (b .part Operators) (b .part Rides)
 
 -- a board to which 1 to 6 do not apply
 pub record Accepted (b : Board) : Type 0 where
   pub table : AcceptedTable b
-  pub stamped : (u v : ℕ) → T (board-graph b .cleared u v) → 1 ≤ getD (b .part Stamps) (pair-place (b .head) u v) 0
+  pub stamped : (u v : ℕ) → T (listed-graph b .cleared u v) → 1 ≤ getD (b .part Stamps) (pair-place (b .head) u v) 0
 
 module _ (b : Board) where
   abbrev h : Head
@@ -62,8 +63,8 @@ module _ (b : Board) where
       first-skip 1 (refused-1 h) _ (not-less 200 (h .operators) (a .few-operators)) ∙
       first-skip 2 (refused-2 h) _ (not-less 60 (h .rides) (a .few-rides)) ∙
       first-skip 3 short _ n ∙
-      first-skip 4 (refused-4 h) _ (not-less (pair-places h) (h .pairs) (pairs-fit h (b .part Operators) (b .part Rides) (board-graph b .cleared) (a .pairs))) ∙
-      first-skip 5 (refused-5 h (b .part Operators) (b .part Rides)) _ (pairs-accepted h (b .part Operators) (b .part Rides) (board-graph b .cleared) (a .pairs))
+      first-skip 4 (refused-4 h) _ (not-less (pair-places h) (h .pairs) (pairs-fit h (b .part Operators) (b .part Rides) (listed-graph b .cleared) (a .pairs))) ∙
+      first-skip 5 (refused-5 h (b .part Operators) (b .part Rides)) _ (pairs-accepted h (b .part Operators) (b .part Rides) (listed-graph b .cleared) (a .pairs))
 
   -- a lent part that is too short gives 3, where the sizes are in bounds
   pub short-three : (short : Bool) (cs : List (ℕ × Bool)) → h .operators ≤ 200 → h .rides ≤ 60 → T short → first-number (five short cs) ≡ 3
@@ -76,7 +77,7 @@ module _ (b : Board) where
   abbrev unstamped : ℕ → Bool
   unstamped i = eqb (getD (b .part Stamps) (pair-place h (getD (b .part Operators) i 0) (getD (b .part Rides) i 0)) 0) 0
 
-  stamped-none : (T (refused-6 b) → ⊥) → (u v : ℕ) → T (board-graph b .cleared u v) → 1 ≤ getD (b .part Stamps) (pair-place h u v) 0
+  stamped-none : (T (refused-6 b) → ⊥) → (u v : ℕ) → T (listed-graph b .cleared u v) → 1 ≤ getD (b .part Stamps) (pair-place h u v) 0
   unfolding refused-6
   stamped-none n u v t =
       let w = listed-place (h .pairs) (b .part Operators) (b .part Rides) u v t in
@@ -116,43 +117,87 @@ module _ (b : Board) where
       let t = table-none (board-short b) _ (λ s. s) e in
       (t .0, elim (decLe 1 start) [ yes l ↦ l | no l ↦ absurd (first-none 8 (refused-9 start) [] (t .2) .0 (subst (λ (x : ℕ). T (eqb x 0)) (let z : 0 ≡ start = omega arith in z) (eqb-refl 0))) ])
 
--- ---- 7 to 10 and 14
+-- ---- 7 to 10, 14 and 15
 
--- a valid message: none of 7, 8, 9 and 14 applies
-pub record Valid (h : Head) (m : Message) : Type 0 where
-  pub kind-low : 1 ≤ m .kind
-  pub kind-high : m .kind ≤ 2
-  pub operator : m .operator < h .operators
-  pub ride : m .ride < h .rides
-  pub stamp : 1 ≤ m .stamp
-  pub revision : m .revision ≤ 255
+-- the slot of a message, by its kind
+module _ (m : Message) where
+  pub slot-pair : m .kind ≤ 2 → slot m ≡ Pair (m .operator) (m .ride)
+  unfolding slot
+  slot-pair k = rw (le-leb (m .kind) 2 k, slot)
+
+  pub slot-operator : 3 ≤ m .kind → m .kind ≤ 4 → slot m ≡ Operator (m .operator)
+  unfolding slot
+  slot-operator l k = rw (lt-leb (m .kind) 2 l, le-leb (m .kind) 4 k, slot)
+
+  pub slot-ride : 5 ≤ m .kind → slot m ≡ Ride (m .ride)
+  unfolding slot
+  slot-ride l = rw (lt-leb (m .kind) 2 (let z : 2 < m .kind = omega arith in z), lt-leb (m .kind) 4 l, slot)
+
+  -- one case for each
+  pub by-kind {ℓ} : (P : Slot → Type ℓ) → (m .kind ≤ 2 → P (Pair (m .operator) (m .ride))) → (3 ≤ m .kind → m .kind ≤ 4 → P (Operator (m .operator))) → (5 ≤ m .kind → P (Ride (m .ride))) → P (slot m)
+  by-kind P f g r =
+      elim (decLe (m .kind) 2) [
+        | yes k ↦ subst P (sym (slot-pair k)) (f k)
+        | no k ↦
+            elim (decLe (m .kind) 4) [
+              | yes l ↦ subst P (sym (slot-operator (omega arith) l)) (g (omega arith) l)
+              | no l ↦ subst P (sym (slot-ride (omega arith))) (r (omega arith))
+            ]
+      ]
+
+-- a slot in range
+abbrev pub Within : Head → Slot → Type 0
+Within h (Pair u v) = (u < h .operators) × (v < h .rides)
+Within h (Operator u) = u < h .operators
+Within h (Ride v) = v < h .rides
+
+module _ (h : Head) where
+  pub within-inside : (t : Slot) → Within h t → T (outside h t) → ⊥
+  within-inside (Pair u v) w t =
+      or-cases (leb (h .operators) u) (leb (h .rides) v) t
+      (λ s. let z : ⊥ = omega (arith, leb→le (h .operators) u s, w .0) in z)
+      (λ s. let z : ⊥ = omega (arith, leb→le (h .rides) v s, w .1) in z)
+  within-inside (Operator u) w t = omega (arith, leb→le (h .operators) u t)
+  within-inside (Ride v) w t = omega (arith, leb→le (h .rides) v t)
+
+  pub inside-within : (t : Slot) → (T (outside h t) → ⊥) → Within h t
+  inside-within (Pair u v) n = (
+    elim (decLt u (h .operators)) [ yes l ↦ l | no l ↦ absurd (n (or-left (leb (h .operators) u) (leb (h .rides) v) (le→leb (h .operators) u (omega arith)))) ],
+    elim (decLt v (h .rides)) [ yes l ↦ l | no l ↦ absurd (n (or-right (leb (h .operators) u) (leb (h .rides) v) (le→leb (h .rides) v (omega arith)))) ],
+  )
+  inside-within (Operator u) n = elim (decLt u (h .operators)) [ yes l ↦ l | no l ↦ absurd (n (le→leb (h .operators) u (omega arith))) ]
+  inside-within (Ride v) n = elim (decLt v (h .rides)) [ yes l ↦ l | no l ↦ absurd (n (le→leb (h .rides) v (omega arith))) ]
 
 -- of a head the sizes count alone
+pub within-sizes : (h h′ : Head) → h .operators ≡ h′ .operators → h .rides ≡ h′ .rides → (t : Slot) → Within h t → Within h′ t
+within-sizes h h′ o r (Pair u v) w = (subst (λ (n : ℕ). u < n) o (w .0), subst (λ (n : ℕ). v < n) r (w .1))
+within-sizes h h′ o r (Operator u) w = subst (λ (n : ℕ). u < n) o w
+within-sizes h h′ o r (Ride v) w = subst (λ (n : ℕ). v < n) r w
+
+-- a valid message: none of 7, 8, 9, 14 and 15 applies
+pub record Valid (h : Head) (m : Message) : Type 0 where
+  pub kind-low : 1 ≤ m .kind
+  pub kind-high : m .kind ≤ 6
+  pub within : Within h (slot m)
+  pub stamp : 1 ≤ m .stamp
+  pub revision : m .revision ≤ 255
+  pub unused-zero : unused (slot m) m ≡ 0
+
 pub valid-sizes : (h h′ : Head) (m : Message) → h .operators ≡ h′ .operators → h .rides ≡ h′ .rides → Valid h m → Valid h′ m
 valid-sizes h h′ m o r v =
     record {
       kind-low = v .kind-low;
       kind-high = v .kind-high;
-      operator = subst (λ (n : ℕ). m .operator < n) o (v .operator);
-      ride = subst (λ (n : ℕ). m .ride < n) r (v .ride);
+      within = within-sizes h h′ o r (slot m) (v .within);
       stamp = v .stamp;
       revision = v .revision;
+      unused-zero = v .unused-zero;
     }
 
 module _ (h : Head) (m : Message) where
-  pub valid-kind : 1 ≤ m .kind → m .kind ≤ 2 → T (refused-7 m) → ⊥
+  pub valid-kind : 1 ≤ m .kind → m .kind ≤ 6 → T (refused-7 m) → ⊥
   valid-kind l u t =
-      T-not (eqb (m .kind) 1 || eqb (m .kind) 2) t
-      (elim (ℕ-discrete (m .kind) 1) [
-        | yes e ↦ or-left (eqb (m .kind) 1) (eqb (m .kind) 2) (subst (λ (x : ℕ). T (eqb (m .kind) x)) e (eqb-refl (m .kind)))
-        | no n ↦ or-right (eqb (m .kind) 1) (eqb (m .kind) 2) (subst (λ (x : ℕ). T (eqb (m .kind) x)) (let e : m .kind ≡ 2 = omega arith in e) (eqb-refl (m .kind)))
-      ])
-
-  pub valid-pair : m .operator < h .operators → m .ride < h .rides → T (refused-8 h m) → ⊥
-  valid-pair o r t =
-      or-cases (leb (h .operators) (m .operator)) (leb (h .rides) (m .ride)) t
-      (λ s. let z : ⊥ = omega (arith, leb→le (h .operators) (m .operator) s) in z)
-      (λ s. let z : ⊥ = omega (arith, leb→le (h .rides) (m .ride) s) in z)
+      T-not (leb 1 (m .kind) && leb (m .kind) 6) t (and-both (leb 1 (m .kind)) (leb (m .kind) 6) (le→leb 1 (m .kind) l) (le→leb (m .kind) 6 u))
 
   pub valid-stamp : 1 ≤ m .stamp → T (refused-9 (m .stamp)) → ⊥
   valid-stamp s t = omega (arith, eqb→eq (m .stamp) 0 t)
@@ -160,15 +205,19 @@ module _ (h : Head) (m : Message) where
   pub valid-revision : m .revision ≤ 255 → T (refused-14 m) → ⊥
   valid-revision = not-less 255 (m .revision)
 
+  pub valid-unused : unused (slot m) m ≡ 0 → T (refused-15 m) → ⊥
+  valid-unused e t = T-not (eqb (unused (slot m) m) 0) t (subst T (sym (eq-eqb (unused (slot m) m) 0 e)) tt)
+
   pub positive-valid : Positive (valid-cases h m)
-  positive-valid = (omega arith, (omega arith, (omega arith, (omega arith, tt))))
+  positive-valid = (omega arith, (omega arith, (omega arith, (omega arith, (omega arith, tt)))))
 
   pub none-valid : Valid h m → first-number (valid-cases h m) ≡ 0
   none-valid v =
       first-skip 7 (refused-7 m) _ (valid-kind (v .kind-low) (v .kind-high)) ∙
-      first-skip 8 (refused-8 h m) _ (valid-pair (v .operator) (v .ride)) ∙
+      first-skip 8 (refused-8 h m) _ (within-inside h (slot m) (v .within)) ∙
       first-skip 9 (refused-9 (m .stamp)) _ (valid-stamp (v .stamp)) ∙
-      first-skip 14 (refused-14 m) [] (valid-revision (v .revision)) ∙
+      first-skip 14 (refused-14 m) _ (valid-revision (v .revision)) ∙
+      first-skip 15 (refused-15 m) [] (valid-unused (v .unused-zero)) ∙
       first-nil
 
   pub valid-none : first-number (valid-cases h m) ≡ 0 → Valid h m
@@ -176,21 +225,24 @@ module _ (h : Head) (m : Message) where
       let n7 = first-none 6 (refused-7 m) _ e in
       let n8 = first-none 7 (refused-8 h m) _ (n7 .1) in
       let n9 = first-none 8 (refused-9 (m .stamp)) _ (n8 .1) in
-      let n14 = first-none 13 (refused-14 m) [] (n9 .1) in
-      let kind : (C : Type 0) → (m .kind ≡ 1 → C) → (m .kind ≡ 2 → C) → C = λ C f g. by-test (eqb (m .kind) 1) (λ t. f (eqb→eq (m .kind) 1 t)) (λ o. by-test (eqb (m .kind) 2) (λ t. g (eqb→eq (m .kind) 2 t)) (λ p. absurd (n7 .0 (not-T (eqb (m .kind) 1 || eqb (m .kind) 2) (λ t. or-cases (eqb (m .kind) 1) (eqb (m .kind) 2) t o p))))) in
+      let n14 = first-none 13 (refused-14 m) _ (n9 .1) in
+      let n15 = first-none 14 (refused-15 m) [] (n14 .1) in
+      let low : Bool = leb 1 (m .kind) in
+      let high : Bool = leb (m .kind) 6 in
+      let kind : T (low && high) = by-test (low && high) (λ t. t) (λ o. absurd (n7 .0 (not-T (low && high) o))) in
       record {
-        kind-low = kind (1 ≤ m .kind) (λ e. omega arith) (λ e. omega arith);
-        kind-high = kind (m .kind ≤ 2) (λ e. omega arith) (λ e. omega arith);
-        operator = elim (decLt (m .operator) (h .operators)) [ yes l ↦ l | no l ↦ absurd (n8 .0 (or-left (leb (h .operators) (m .operator)) (leb (h .rides) (m .ride)) (le→leb (h .operators) (m .operator) (omega arith)))) ];
-        ride = elim (decLt (m .ride) (h .rides)) [ yes l ↦ l | no l ↦ absurd (n8 .0 (or-right (leb (h .operators) (m .operator)) (leb (h .rides) (m .ride)) (le→leb (h .rides) (m .ride) (omega arith)))) ];
+        kind-low = leb→le 1 (m .kind) (and-left low high kind);
+        kind-high = leb→le (m .kind) 6 (and-right low high kind);
+        within = inside-within h (slot m) (n8 .0);
         stamp = elim (decLe 1 (m .stamp)) [ yes l ↦ l | no l ↦ absurd (n9 .0 (subst (λ (x : ℕ). T (eqb x 0)) (let e : 0 ≡ m .stamp = omega arith in e) (eqb-refl 0))) ];
         revision = enough 255 (m .revision) (n14 .0);
+        unused-zero = by-test (eqb (unused (slot m) m) 0) (eqb→eq (unused (slot m) m) 0) (λ o. absurd (n15 .0 (not-T (eqb (unused (slot m) m) 0) o)));
       }
 
 -- ---- message and list
 
 module _ (b : Board) (m : Message) where
-  -- where none of 7 to 10 and 14 applies, the message is valid and later
+  -- where none of 7 to 10, 14 and 15 applies, the message is valid and later
   pub cases-none : first-number (message-cases b m) ≡ 0 → Valid (b .head) m × (T (refused-10 b m) → ⊥)
   cases-none e =
       let s = first-split ((10, refused-10 b m) ∷ []) (valid-cases (b .head) m) (positive-valid (b .head) m) e in

@@ -4,22 +4,14 @@ use mathlib.Core.List.{List}
 use Prim.Native.Nat.{ℕ, zero, suc, _≤_}
 use lib.Dec.{T}
 use lib.ListN.{length, drop}
-use Rattle.model.specs.declared.Head.{Head}
 use Rattle.model.specs.declared.Message.{Message}
-use Rattle.model.specs.Layout.{Index, Parts, Board, index-places, differing}
-use Rattle.model.specs.Contents.{Slot, Pair, Entry, Contents, slot, entry, put, contents, words}
+use Rattle.model.specs.Layout.{Index, Parts, Board, index-places, listed-graph, differing}
+use Rattle.model.specs.Contents.{Slot, Pair, Entry, gives, Contents, slot, entry, put, given, contents, words}
 use Rattle.model.specs.Refusal.{message-refusal, list-refusal}
 use Rattle.model.specs.Message.{MessageOutcome, board-after, board-message, in-order, board-messages}
-use Rattle.model.proofs.Refusal.{Accepted, Valid, taken-none, list-none, list-accepted}
-use Rattle.model.proofs.Contents.{by-slot, put-same, put-other, Within, contents-of, accepted-of}
-
--- the slot of a valid message is in range
-pub valid-within : (h : Head) (m : Message) → Valid h m → Within h (slot m)
-valid-within h m v = (v .operator, v .ride)
-
--- each slot of an accepted board that gives has a stamp
-pub stamped-slot : (b : Board) → Accepted b → (t : Slot) → T (contents b t .gives) → 1 ≤ contents b t .stamp
-stamped-slot b a (Pair u v) g = a .stamped u v g
+use Rattle.model.proofs.Count.{bit-test}
+use Rattle.model.proofs.Refusal.{Accepted, Within, Valid, taken-none, list-none, list-accepted}
+use Rattle.model.proofs.Contents.{by-slot, put-same, put-other, plain-entry, plain-contents, plain-put, contents-of, accepted-of}
 
 -- ---- taken or refused
 
@@ -51,18 +43,18 @@ module _ (b : Board) (m : Message) where
   -- it says the message's entry at the message's slot, and all else as before
   pub says-after : (t : Slot) → Within (b .head) t → contents (board-after b m) t ≡ next t
   unfolding board-after
-  says-after = contents-of (b .head) next behind
+  says-after t w = contents-of (b .head) next behind t w (plain-put (contents b) (slot m) (entry m) t (plain-entry t m) (plain-contents b t))
 
-  next-stamped : Accepted b → Valid (b .head) m → (t : Slot) → T (next t .gives) → 1 ≤ next t .stamp
-  next-stamped a v t =
-      by-slot t (slot m)
-      (λ q. subst (λ (e : Entry). T (e .gives) → 1 ≤ e .stamp) (sym (ap next q ∙ put-same (contents b) (slot m) (entry m))) (λ g. v .stamp))
-      (λ n. subst (λ (e : Entry). T (e .gives) → 1 ≤ e .stamp) (sym (put-other (contents b) (slot m) (entry m) t n)) (stamped-slot b a t))
+  next-stamped : Accepted b → Valid (b .head) m → (u v : ℕ) → T (given next u v) → 1 ≤ next (Pair u v) .stamp
+  next-stamped a valid u v =
+      by-slot (Pair u v) (slot m)
+      (λ q. subst (λ (e : Entry). T (gives e) → 1 ≤ e .stamp) (sym (ap next q ∙ put-same (contents b) (slot m) (entry m))) (λ g. valid .stamp))
+      (λ n. subst (λ (e : Entry). T (gives e) → 1 ≤ e .stamp) (sym (put-other (contents b) (slot m) (entry m) (Pair u v) n)) (λ g. a .stamped u v (subst T (bit-test (listed-graph b .cleared u v)) g)))
 
   -- 1 to 6 do not apply to it
   pub accepted-after : Accepted b → Valid (b .head) m → Accepted (board-after b m)
   unfolding board-after
-  accepted-after a v = accepted-of (b .head) next behind (a .table .few-operators) (a .table .few-rides) (λ t w. next-stamped a v t)
+  accepted-after a v = accepted-of (b .head) next behind (a .table .few-operators) (a .table .few-rides) (λ u w p q. next-stamped a v u w)
 
   -- nor to the board after any message
   pub accepted-message : Accepted b → Accepted (board-message b m .board)

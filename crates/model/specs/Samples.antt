@@ -1,5 +1,5 @@
 -- Document 01, Samples on that board: those with a star, one table. Each row has what the definitions give, and what document 01 says.
--- The last row, "Built at stamp 5", has no star. Further tables have limits of 0, previews and revisions: document 02, 2.1 to 2.3.
+-- The last row, "Built at stamp 5", has no star. Further tables have limits of 0, previews, revisions and presence: document 02, 2.1 to 2.4.
 use mathlib.Core.Path.{_≡_}
 use mathlib.Core.List.{List, [], _∷_, _++_}
 use Prim.Native.Nat.{ℕ, _-_, _*_}
@@ -208,6 +208,110 @@ revision-samples =
     (told (built-at 5) (for-0-0 1 256 0 ∷ []), 9 ∷ 5 ∷ 0 ∷ 7 ∷ []) ∷
     (told (built-at 5) (for-0-0 1 256 4 ∷ []), 14 ∷ 5 ∷ 0 ∷ 7 ∷ []) ∷
     (told stored-300 (for-0-0 2 255 5 ∷ for-0-0 2 0 6 ∷ []), 10 ∷ 0 ∷ 6 ∷ 0 ∷ 6 ∷ []) ∷
+    []
+
+-- a message of revision 0
+abbrev of-kind : ℕ → ℕ → ℕ → ℕ → Message
+of-kind kind operator ride stamp =
+    record { kind = kind; operator = operator; ride = ride; revision = 0; stamp = stamp }
+
+-- messages sent to a board one after another: the number and the count of each
+abbrev answers : Board → List Message → List ℕ
+answers b [] = []
+answers b (m ∷ ms) =
+    let o = board-message b m in
+    o .answer .code ∷ o .answer .differ ∷ answers (o .board) ms
+
+-- and the board that they leave
+abbrev left-by : Board → List Message → Board
+left-by b [] = b
+left-by b (m ∷ ms) = left-by (board-message b m .board) ms
+
+-- a board with these presence stamps and words
+abbrev with-presence : Board → List ℕ → List ℕ → Board
+with-presence b stamps words =
+    lent (b .head) (b .part Operators) (b .part Rides) (b .part Stamps) (b .part Revisions) (b .part Index) stamps (b .part PresenceRevisions) words
+
+-- what a query gives on a board as it stands: its number, its counts, and the marks
+abbrev asked-as-is : Board → ℕ → ℕ → List ℕ
+asked-as-is b α β =
+    let o = board-query (b .head) (b .part Index) (b .part Presence) α β (replicate 7 9) in
+    o .answer .code ∷ o .answer .operators ∷ o .answer .rides ∷ o .marks
+
+-- what a peel from all ones gives on a board as it stands: its number, settled, steps, and the marks
+abbrev peeled-as-is : Board → ℕ → ℕ → ℕ → List ℕ
+peeled-as-is b α β allowed =
+    let o = board-peel (b .head) (b .part Operators) (b .part Rides) (b .part Presence) (replicate 7 1) α β allowed in
+    o .answer .code ∷ o .answer .settled ∷ o .answer .steps ∷ o .marks
+
+-- on the board built at stamp 5: operator 2 off, ride 1 out, both with stamp 6; and back with stamp 7
+abbrev off-2 : Message
+off-2 = of-kind 4 2 0 6
+
+abbrev out-1 : Message
+out-1 = of-kind 6 0 1 6
+
+abbrev on-2 : Message
+on-2 = of-kind 3 2 0 7
+
+abbrev in-1 : Message
+in-1 = of-kind 5 0 1 7
+
+-- the board built at stamp 5, with stamp 6 and a word of 7 for operator 2
+abbrev stored-7 : Board
+stored-7 = with-presence (built-at 5) (0 ∷ 0 ∷ 6 ∷ 0 ∷ 0 ∷ 0 ∷ 0 ∷ []) (1 ∷ 1 ∷ 7 ∷ 1 ∷ 1 ∷ 1 ∷ 1 ∷ [])
+
+-- presence, by hand, on the board built at stamp 5: operators 0 and 1 have rides 0 and 1, operator 2 rides 1 and 2, operator 3 ride 2.
+-- A build writes 1 for everybody, with stamps and revisions of 0.
+-- Without operator 2 rides 0 and 1 have operators 0 and 1, ride 2 has operator 3: row 1 is 2 2 0 1, then 2 2 1, and row 2 is 2 2 0 0, then 2 2 0:
+-- 6 + 2 words differ. Without ride 1 operators 0 and 1 have ride 0, 2 and 3 ride 2: row 1 is 2 2 2 2, then 2 0 2, and row 2 all 0: 4 + 6 words.
+-- Without both row 1 is 2 2 0 1, then 2 0 1: from operator 2 off 1 + 4 words differ. Operator 2 comes back: 3 words; ride 1 too: 10, as it was.
+-- An on and an off of stamp 6: the off is taken after the on, and the on is not taken after it.
+-- A word of 7 is off: at its own stamp an off gets 10, and so does an on; an off of stamp 7 writes 0. When ride 1 goes out it stays 7, and
+-- the index is that without both: from all pairs 6 + 6 words differ.
+-- Operator 2 is off and is granted ride 0: there are 8 pairs and no word differs. It comes on: rides 0 and 1 have three operators, ride 2 two.
+-- Row 1 is 3 3 3 2, then 3 3 2; row 2 is 3 3 3 0, then 3 3 1; row 3 is 0 0 1 0, then 1 1 1: 7 + 6 + 4 words differ.
+-- Operator 2 is off: query (0,0) marks all others. On the index of all pairs query (1,3) leaves out operator 2.
+-- Operator 2 is off and ride 1 out: a peel (0,0) from all ones drops both, one a step; with 1 step ride 1 stays, with none both do: unsettled.
+-- A peel (2,2) with operator 2 off drops operator 2, operator 3, ride 2.
+-- Kind 0 and kind 7 get 7. An operator's message with operator 4 gets 8, with ride 9 gets 15; a ride's with ride 3 gets 8, with operator 9 gets 15.
+-- With ride 1 an operator's gets 9 at stamp 0, 14 at revision 256, and 15 where 10 applies too.
+unfoldable pub presence-samples : List (List ℕ × List ℕ)
+presence-samples =
+    (built-at 5 .part PresenceStamps ++ built-at 5 .part PresenceRevisions ++ built-at 5 .part Presence, replicate 14 0 ++ replicate 7 1) ∷
+    (answers (built-at 5) (off-2 ∷ out-1 ∷ on-2 ∷ in-1 ∷ []), 0 ∷ 8 ∷ 0 ∷ 5 ∷ 0 ∷ 3 ∷ 0 ∷ 10 ∷ []) ∷
+    (answers (built-at 5) (out-1 ∷ []), 0 ∷ 10 ∷ []) ∷
+    (index-row (left-by (built-at 5) (off-2 ∷ [])) 1, 2 ∷ 2 ∷ 0 ∷ 1 ∷ 2 ∷ 2 ∷ 1 ∷ []) ∷
+    (index-row (left-by (built-at 5) (off-2 ∷ [])) 2, 2 ∷ 2 ∷ 0 ∷ 0 ∷ 2 ∷ 2 ∷ 0 ∷ []) ∷
+    (index-row (left-by (built-at 5) (out-1 ∷ [])) 1, 2 ∷ 2 ∷ 2 ∷ 2 ∷ 2 ∷ 0 ∷ 2 ∷ []) ∷
+    (index-row (left-by (built-at 5) (out-1 ∷ [])) 2, replicate 7 0) ∷
+    (index-row (left-by (built-at 5) (off-2 ∷ out-1 ∷ [])) 1, 2 ∷ 2 ∷ 0 ∷ 1 ∷ 2 ∷ 0 ∷ 1 ∷ []) ∷
+    (left-by (built-at 5) (off-2 ∷ out-1 ∷ on-2 ∷ in-1 ∷ []) .part Index, built-at 5 .part Index) ∷
+    (left-by (built-at 5) (off-2 ∷ out-1 ∷ on-2 ∷ []) .part PresenceStamps, 0 ∷ 0 ∷ 7 ∷ 0 ∷ 0 ∷ 6 ∷ 0 ∷ []) ∷
+    (left-by (built-at 5) (off-2 ∷ out-1 ∷ on-2 ∷ []) .part Presence, 1 ∷ 1 ∷ 1 ∷ 1 ∷ 1 ∷ 0 ∷ 1 ∷ []) ∷
+    (left-by (built-at 5) (off-2 ∷ out-1 ∷ []) .part Operators, built-at 5 .part Operators) ∷
+    (answers (built-at 5) (of-kind 3 2 0 6 ∷ off-2 ∷ of-kind 3 2 0 6 ∷ []), 0 ∷ 0 ∷ 0 ∷ 8 ∷ 10 ∷ 0 ∷ []) ∷
+    (answers stored-7 (off-2 ∷ of-kind 3 2 0 6 ∷ []), 10 ∷ 0 ∷ 10 ∷ 0 ∷ []) ∷
+    (left-by stored-7 (of-kind 4 2 0 7 ∷ []) .part Presence, 1 ∷ 1 ∷ 0 ∷ 1 ∷ 1 ∷ 1 ∷ 1 ∷ []) ∷
+    (answers stored-7 (out-1 ∷ []), 0 ∷ 12 ∷ []) ∷
+    (left-by stored-7 (out-1 ∷ []) .part Presence, 1 ∷ 1 ∷ 7 ∷ 1 ∷ 1 ∷ 0 ∷ 1 ∷ []) ∷
+    (answers (built-at 5) (off-2 ∷ of-kind 1 2 0 6 ∷ on-2 ∷ []), 0 ∷ 8 ∷ 0 ∷ 0 ∷ 0 ∷ 17 ∷ []) ∷
+    (left-by (built-at 5) (off-2 ∷ of-kind 1 2 0 6 ∷ []) .head .pairs ∷ [], 8 ∷ []) ∷
+    (index-row (left-by (built-at 5) (off-2 ∷ of-kind 1 2 0 6 ∷ on-2 ∷ [])) 2, 3 ∷ 3 ∷ 3 ∷ 0 ∷ 3 ∷ 3 ∷ 1 ∷ []) ∷
+    (asked-as-is (left-by (built-at 5) (off-2 ∷ [])) 0 0, 0 ∷ 3 ∷ 3 ∷ 1 ∷ 1 ∷ 0 ∷ 1 ∷ 1 ∷ 1 ∷ 1 ∷ []) ∷
+    (asked-as-is stored-7 1 3, 0 ∷ 2 ∷ 1 ∷ 1 ∷ 1 ∷ 0 ∷ 0 ∷ 0 ∷ 1 ∷ 0 ∷ []) ∷
+    (peeled-as-is (left-by (built-at 5) (off-2 ∷ out-1 ∷ [])) 0 0 7, 0 ∷ 1 ∷ 2 ∷ 1 ∷ 1 ∷ 0 ∷ 1 ∷ 1 ∷ 0 ∷ 1 ∷ []) ∷
+    (peeled-as-is (left-by (built-at 5) (off-2 ∷ out-1 ∷ [])) 0 0 1, 0 ∷ 0 ∷ 1 ∷ 1 ∷ 1 ∷ 0 ∷ 1 ∷ 1 ∷ 1 ∷ 1 ∷ []) ∷
+    (peeled-as-is (left-by (built-at 5) (off-2 ∷ out-1 ∷ [])) 0 0 0, 0 ∷ 0 ∷ 0 ∷ replicate 7 1) ∷
+    (peeled-as-is (left-by (built-at 5) (off-2 ∷ [])) 2 2 3, 0 ∷ 1 ∷ 3 ∷ 1 ∷ 1 ∷ 0 ∷ 0 ∷ 1 ∷ 1 ∷ 0 ∷ []) ∷
+    (peeled-as-is (left-by (built-at 5) (off-2 ∷ [])) 2 2 2, 0 ∷ 0 ∷ 2 ∷ 1 ∷ 1 ∷ 0 ∷ 0 ∷ 1 ∷ 1 ∷ 1 ∷ []) ∷
+    (answers (built-at 5) (of-kind 0 2 0 6 ∷ of-kind 7 2 0 6 ∷ []), 7 ∷ 0 ∷ 7 ∷ 0 ∷ []) ∷
+    (answers (built-at 5) (of-kind 4 4 0 6 ∷ of-kind 4 2 9 6 ∷ []), 8 ∷ 0 ∷ 15 ∷ 0 ∷ []) ∷
+    (answers (built-at 5) (of-kind 6 0 3 6 ∷ of-kind 6 9 1 6 ∷ []), 8 ∷ 0 ∷ 15 ∷ 0 ∷ []) ∷ (
+      answers (built-at 5)
+          (of-kind 4 2 1 0 ∷ record { kind = 4; operator = 2; ride = 1; revision = 256; stamp = 6 } ∷ off-2 ∷ of-kind 4 2 1 5 ∷ []),
+      9 ∷ 0 ∷ 14 ∷ 0 ∷ 0 ∷ 8 ∷ 15 ∷ 0 ∷ [],
+    ) ∷
     []
 
 -- in each row of a table the two lists are equal
