@@ -2,8 +2,8 @@
  * A controller over the board: it takes the messages of a radio trace in the order in which they arrive, and prints for
  * each ride whether it gets its dispatch permit, before and after each message. A ride gets it while it is in cover
  * (alpha, beta). A withdrawal, an operator off or a ride out is previewed in spare memory before it is sent to the
- * board: the permits that would be given after it are printed. The controller stops where the message then does anything
- * else. After a message for an operator or a ride it prints which operators are on and which rides are in.
+ * board: the permits that would be given after it are printed. The controller stops where the message then does
+ * anything else. After a message for an operator or a ride it prints which operators are on and which rides are in.
  *
  *     controller TRACE ALPHA BETA
  *
@@ -148,7 +148,7 @@ static size_t read_trace(const char *name) {
     return count;
 }
 
-/* The order of two messages: by stamp, then revision, then kind. The later of one pair, operator or ride comes behind. */
+/* The order of two messages: by stamp, then revision, then kind. Of two for the same the later comes behind. */
 static int by_stamp(const void *left, const void *right) {
     const BoardMessage *a = left, *b = right;
     if (a->stamp != b->stamp)

@@ -1,7 +1,8 @@
 /*
  * The plain calls beside the functions over a Board: both ways on equal memory, with parts as long as needed, with one
- * part after another too short by a place, and with limits of 0. Prints what the calls answer. Exit status 0 says that
- * each answer and every lent word was the same both ways.
+ * part after another too short by a place, and with limits of 0. Query and peel come twice: after the build, with
+ * everybody on and in, and after the list, with operator 1 off and ride 2 out. Prints what the calls answer. Exit
+ * status 0 says that each answer and every lent word was the same both ways.
  */
 #include <stdio.h>
 #include <string.h>
@@ -11,9 +12,9 @@
 #define OPERATORS 4
 #define RIDES 3
 #define PAIRS 7
-#define SAMPLE {{0, 0, 1, 1, 2, 2, 3}, {0, 1, 0, 1, 1, 2, 2}, {0}, {0}, {0}}
+#define SAMPLE {{0, 0, 1, 1, 2, 2, 3}, {0, 1, 0, 1, 1, 2, 2}, {0}, {0}, {0}, {0}, {0}, {0}}
 #define MARKS BOARD_MARK_PLACES(OPERATORS, RIDES)
-#define MESSAGES 3
+#define MESSAGES 7
 
 BOARD_STORAGE(table, OPERATORS, RIDES) = SAMPLE;
 BOARD_STORAGE(memory, OPERATORS, RIDES);
@@ -22,17 +23,20 @@ BOARD_STORAGE(spare_memory, OPERATORS, RIDES);
 BOARD_STORAGE(spare_other, OPERATORS, RIDES);
 BOARD_STORAGE(empty, 0, 0);
 
-/* Kind, operator, ride, revision, stamp. The list corrects the grant with a smaller revision, and with one over 255. */
+/*
+ * Kind, operator, ride, revision, stamp. The list corrects the grant with a smaller revision, and with one over 255.
+ * It has operator 1 off with a ride that isn't 0, then with ride 0, then on at the same stamp, and ride 2 out.
+ */
 static const BoardMessage grant = {BOARD_GRANT, 3, 1, 2, 20};
 static const BoardMessage list[MESSAGES] = {
-    {BOARD_WITHDRAWAL, 3, 1, 1, 20},
-    {BOARD_WITHDRAWAL, 3, 1, 256, 20},
-    {BOARD_WITHDRAWAL, 0, 0, 255, 10},
+    {BOARD_WITHDRAWAL, 3, 1, 1, 20},   {BOARD_WITHDRAWAL, 3, 1, 256, 20}, {BOARD_WITHDRAWAL, 0, 0, 255, 10},
+    {BOARD_OPERATOR_OFF, 1, 2, 0, 30}, {BOARD_OPERATOR_OFF, 1, 0, 0, 10}, {BOARD_OPERATOR_ON, 1, 0, 0, 10},
+    {BOARD_RIDE_OUT, 0, 2, 255, 10},
 };
 
 /* The lengths of a board's parts, in places. */
 typedef struct Lengths {
-    size_t operators, rides, stamps, revisions, index;
+    size_t operators, rides, stamps, revisions, index, presence_stamps, presence_revisions, presence;
 } Lengths;
 
 /* The lengths that are lent, in places, and the limits of query and peel. */
@@ -43,26 +47,32 @@ typedef struct Given {
     uint16_t alpha, beta;
 } Given;
 
-#define NEEDED {12, 12, 12, 12, 21}
+#define NEEDED {12, 12, 12, 12, 21, 7, 7, 7}
 
 static const Given rows[] = {
-    {"as needed", NEEDED, NEEDED, 7, 3, 1, 3},
-    {"operators short", {11, 12, 12, 12, 21}, NEEDED, 7, 3, 1, 3},
-    {"rides short", {12, 11, 12, 12, 21}, NEEDED, 7, 3, 1, 3},
-    {"stamps short", {12, 12, 11, 12, 21}, NEEDED, 7, 3, 1, 3},
-    {"revisions short", {12, 12, 12, 11, 21}, NEEDED, 7, 3, 1, 3},
-    {"index short", {12, 12, 12, 12, 20}, NEEDED, 7, 3, 1, 3},
-    {"spare operators short", NEEDED, {11, 12, 12, 12, 21}, 7, 3, 1, 3},
-    {"spare rides short", NEEDED, {12, 11, 12, 12, 21}, 7, 3, 1, 3},
-    {"spare stamps short", NEEDED, {12, 12, 11, 12, 21}, 7, 3, 1, 3},
-    {"spare revisions short", NEEDED, {12, 12, 12, 11, 21}, 7, 3, 1, 3},
-    {"spare index short", NEEDED, {12, 12, 12, 12, 20}, 7, 3, 1, 3},
-    {"marks short", NEEDED, NEEDED, 6, 3, 1, 3},
-    {"answers short", NEEDED, NEEDED, 7, 2, 1, 3},
-    {"alpha 0, beta 3", NEEDED, NEEDED, 7, 3, 0, 3},
-    {"alpha 2, beta 0", NEEDED, NEEDED, 7, 3, 2, 0},
-    {"alpha 4, beta 0", NEEDED, NEEDED, 7, 3, 4, 0},
-    {"alpha 0, beta 0", NEEDED, NEEDED, 7, 3, 0, 0},
+    {"as needed", NEEDED, NEEDED, 7, 7, 1, 3},
+    {"operators short", {11, 12, 12, 12, 21, 7, 7, 7}, NEEDED, 7, 7, 1, 3},
+    {"rides short", {12, 11, 12, 12, 21, 7, 7, 7}, NEEDED, 7, 7, 1, 3},
+    {"stamps short", {12, 12, 11, 12, 21, 7, 7, 7}, NEEDED, 7, 7, 1, 3},
+    {"revisions short", {12, 12, 12, 11, 21, 7, 7, 7}, NEEDED, 7, 7, 1, 3},
+    {"index short", {12, 12, 12, 12, 20, 7, 7, 7}, NEEDED, 7, 7, 1, 3},
+    {"presence stamps short", {12, 12, 12, 12, 21, 6, 7, 7}, NEEDED, 7, 7, 1, 3},
+    {"presence revisions short", {12, 12, 12, 12, 21, 7, 6, 7}, NEEDED, 7, 7, 1, 3},
+    {"presence short", {12, 12, 12, 12, 21, 7, 7, 6}, NEEDED, 7, 7, 1, 3},
+    {"spare operators short", NEEDED, {11, 12, 12, 12, 21, 7, 7, 7}, 7, 7, 1, 3},
+    {"spare rides short", NEEDED, {12, 11, 12, 12, 21, 7, 7, 7}, 7, 7, 1, 3},
+    {"spare stamps short", NEEDED, {12, 12, 11, 12, 21, 7, 7, 7}, 7, 7, 1, 3},
+    {"spare revisions short", NEEDED, {12, 12, 12, 11, 21, 7, 7, 7}, 7, 7, 1, 3},
+    {"spare index short", NEEDED, {12, 12, 12, 12, 20, 7, 7, 7}, 7, 7, 1, 3},
+    {"spare presence stamps short", NEEDED, {12, 12, 12, 12, 21, 6, 7, 7}, 7, 7, 1, 3},
+    {"spare presence revisions short", NEEDED, {12, 12, 12, 12, 21, 7, 6, 7}, 7, 7, 1, 3},
+    {"spare presence short", NEEDED, {12, 12, 12, 12, 21, 7, 7, 6}, 7, 7, 1, 3},
+    {"marks short", NEEDED, NEEDED, 6, 7, 1, 3},
+    {"answers short", NEEDED, NEEDED, 7, 6, 1, 3},
+    {"alpha 0, beta 3", NEEDED, NEEDED, 7, 7, 0, 3},
+    {"alpha 2, beta 0", NEEDED, NEEDED, 7, 7, 2, 0},
+    {"alpha 4, beta 0", NEEDED, NEEDED, 7, 7, 4, 0},
+    {"alpha 0, beta 0", NEEDED, NEEDED, 7, 7, 0, 0},
 };
 
 /* What the calls answer, and the lent words outside the storage. */
@@ -78,6 +88,10 @@ typedef struct Outcome {
     BoardAnswer message;
     uint16_t messages;
     uint16_t answers[MESSAGES];
+    BoardCounts query_again;
+    uint16_t queried_again[MARKS];
+    BoardPeeled peel_again;
+    uint16_t peeled_again[MARKS];
 } Outcome;
 
 static const Outcome before = {
@@ -91,7 +105,11 @@ static const Outcome before = {
     {9, 9, 9},
     {0, 0},
     0,
-    {9, 9, 9},
+    {9, 9, 9, 9, 9, 9, 9},
+    {0, 0, 0},
+    {9, 9, 9, 9, 9, 9, 9},
+    {0, 0, 0},
+    {1, 1, 1, 1, 1, 1, 1},
 };
 
 /* Lends so many places of each part. */
@@ -101,6 +119,9 @@ static Board lend(Board board, Lengths n) {
     board.stamps_length = n.stamps;
     board.revisions_length = n.revisions;
     board.index_length = n.index;
+    board.presence_stamps_length = n.presence_stamps;
+    board.presence_revisions_length = n.presence_revisions;
+    board.presence_length = n.presence;
     return board;
 }
 
@@ -115,6 +136,8 @@ static Outcome over_a_board(const Given *given) {
     out.spare_head = spare.head;
     out.message = board_message_on(&board, grant);
     out.messages = board_messages_on(&board, list, MESSAGES, out.answers, given->answers);
+    out.query_again = board_query_on(&board, given->alpha, given->beta, out.queried_again, given->marks);
+    out.peel_again = board_peel_on(&board, out.peeled_again, given->marks, given->alpha, given->beta, 2);
     out.head = board.head;
     return out;
 }
@@ -123,25 +146,54 @@ static Outcome plainly(const Given *given) {
     Outcome out = before;
     Lengths n = given->board, s = given->spare;
     out.build = board_build(out.head, other.operators, n.operators, other.rides, n.rides, 10, other.stamps, n.stamps,
-                            other.revisions, n.revisions, other.index, n.index);
-    out.query = board_query(out.head, other.index, n.index, given->alpha, given->beta, out.queried, given->marks);
-    out.peel = board_peel(out.head, other.operators, n.operators, other.rides, n.rides, out.peeled, given->marks,
-                          given->alpha, given->beta, 2);
-    out.preview = board_preview(out.head, other.operators, n.operators, other.rides, n.rides, other.stamps, n.stamps,
-                                other.revisions, n.revisions, other.index, n.index, grant, &out.spare_head,
-                                spare_other.operators, s.operators, spare_other.rides, s.rides, spare_other.stamps,
-                                s.stamps, spare_other.revisions, s.revisions, spare_other.index, s.index);
+                            other.revisions, n.revisions, other.index, n.index, other.presence_stamps,
+                            n.presence_stamps, other.presence_revisions, n.presence_revisions, other.presence,
+                            n.presence);
+    out.query = board_query(out.head, other.index, n.index, other.presence, n.presence, given->alpha, given->beta,
+                            out.queried, given->marks);
+    out.peel = board_peel(out.head, other.operators, n.operators, other.rides, n.rides, other.presence, n.presence,
+                          out.peeled, given->marks, given->alpha, given->beta, 2);
+    out.preview = board_preview(
+        out.head, other.operators, n.operators, other.rides, n.rides, other.stamps, n.stamps, other.revisions,
+        n.revisions, other.index, n.index, other.presence_stamps, n.presence_stamps, other.presence_revisions,
+        n.presence_revisions, other.presence, n.presence, grant, &out.spare_head, spare_other.operators, s.operators,
+        spare_other.rides, s.rides, spare_other.stamps, s.stamps, spare_other.revisions, s.revisions,
+        spare_other.index, s.index, spare_other.presence_stamps, s.presence_stamps, spare_other.presence_revisions,
+        s.presence_revisions, spare_other.presence, s.presence);
     out.message = board_message(&out.head, other.operators, n.operators, other.rides, n.rides, other.stamps, n.stamps,
-                                other.revisions, n.revisions, other.index, n.index, grant);
+                                other.revisions, n.revisions, other.index, n.index, other.presence_stamps,
+                                n.presence_stamps, other.presence_revisions, n.presence_revisions, other.presence,
+                                n.presence, grant);
     out.messages = board_messages(&out.head, other.operators, n.operators, other.rides, n.rides, other.stamps, n.stamps,
-                                  other.revisions, n.revisions, other.index, n.index, list, MESSAGES, out.answers,
-                                  given->answers);
+                                  other.revisions, n.revisions, other.index, n.index, other.presence_stamps,
+                                  n.presence_stamps, other.presence_revisions, n.presence_revisions, other.presence,
+                                  n.presence, list, MESSAGES, out.answers, given->answers);
+    out.query_again = board_query(out.head, other.index, n.index, other.presence, n.presence, given->alpha,
+                                  given->beta, out.queried_again, given->marks);
+    out.peel_again = board_peel(out.head, other.operators, n.operators, other.rides, n.rides, other.presence,
+                                n.presence, out.peeled_again, given->marks, given->alpha, given->beta, 2);
     return out;
+}
+
+static void print_marked(BoardCounts query, BoardPeeled peel) {
+    printf(" %6u: %u + %u %6u: %5u", query.code, query.operators, query.rides, peel.code, peel.steps);
+}
+
+static void print_outcome(const char *title, const Outcome *out, int same) {
+    printf("%-30s %5u", title, out->build);
+    print_marked(out->query, out->peel);
+    printf(" %8u: %5u %8u: %5u %5u:", out->preview.code, out->preview.differ, out->message.code, out->message.differ,
+           out->messages);
+    for (size_t i = 0; i < MESSAGES; i++)
+        printf(" %2u", out->answers[i]);
+    print_marked(out->query_again, out->peel_again);
+    printf("   %s\n", same ? "the same" : "ANOTHER");
 }
 
 int main(void) {
     int differs = 0;
-    printf("%-21s build  query: marked  peel: steps  preview: words  message: words  list: answers\n", "");
+    printf("%-30s build  query: marked  peel: steps  preview: words  message: words  list: answers", "");
+    printf("           query: marked  peel: steps\n");
     for (size_t i = 0; i < BOARD_LENGTH(rows); i++) {
         memcpy(&memory, &table, sizeof memory);
         memcpy(&other, &table, sizeof other);
@@ -151,12 +203,9 @@ int main(void) {
         int same = memcmp(&a, &b, sizeof a) == 0 && memcmp(&memory, &other, sizeof memory) == 0 &&
                    memcmp(&spare_memory, &spare_other, sizeof spare_memory) == 0;
         differs |= !same;
-        printf("%-21s %5u %6u: %u + %u %6u: %5u %8u: %5u %8u: %5u %5u: %u %u %u   %s\n", rows[i].title, a.build,
-               a.query.code, a.query.operators, a.query.rides, a.peel.code, a.peel.steps, a.preview.code,
-               a.preview.differ, a.message.code, a.message.differ, a.messages, a.answers[0], a.answers[1], a.answers[2],
-               same ? "the same" : "ANOTHER");
+        print_outcome(rows[i].title, &a, same);
     }
     Board nobody = BOARD_OVER(empty, 0, 0, 0);
-    printf("%-21s %5u\n", "0 x 0", board_build_on(&nobody, 10));
+    printf("%-30s %5u\n", "0 x 0", board_build_on(&nobody, 10));
     return differs;
 }

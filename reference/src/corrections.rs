@@ -128,11 +128,11 @@ pub const BESIDE_14: &[(Message, u16)] = &[
     (too_large(WITHDRAWAL, 1, 0, 9), 14),
     // 7, 8 and 9 come before 14.
     (too_large(0, 1, 0, 9), 7),
-    (too_large(3, 1, 0, 9), 7),
+    (too_large(7, 1, 0, 9), 7),
     (too_large(WITHDRAWAL, 4, 0, 9), 8),
     (too_large(GRANT, 1, 3, 9), 8),
     (too_large(WITHDRAWAL, 1, 0, 0), 9),
-    (too_large(3, 4, 3, 0), 7),
+    (too_large(7, 4, 3, 0), 7),
     (too_large(GRANT, 4, 3, 0), 8),
     // 10 comes after it: an older one, and a grant of the build's own stamp.
     (too_large(WITHDRAWAL, 1, 0, 4), 14),

@@ -109,7 +109,11 @@ impl Word for u32 {
 /// One call, with all that it is lent.
 #[derive(Clone, Debug, PartialEq, Eq)]
 pub enum Call {
-    Build { head: Head, start: u32, parts: Framed },
+    Build {
+        head: Head,
+        start: u32,
+        parts: Framed,
+    },
     Query {
         head: Head,
         alpha: u16,
@@ -128,8 +132,17 @@ pub enum Call {
         presence: Part<u16>,
         marks: Part<u16>,
     },
-    Message { head: Head, message: Message, parts: Framed },
-    Messages { head: Head, messages: Vec<Message>, parts: Framed, answers: Part<u16> },
+    Message {
+        head: Head,
+        message: Message,
+        parts: Framed,
+    },
+    Messages {
+        head: Head,
+        messages: Vec<Message>,
+        parts: Framed,
+        answers: Part<u16>,
+    },
 }
 
 // Writing

@@ -1,6 +1,9 @@
 //! The samples of documents 01 and 02, and the definitions against what they say of every set.
 
 use super::corrections::{Corrections, BESIDE_14, CORRECTIONS, SHORT_REVISIONS, START};
+use super::presence::{Delivery, Node, Rows, Turns, Words, BEFORE_15, BESIDE_15, BESIDE_6, BUILT_OVER, DELIVERIES};
+use super::presence::{ALL_COUNT, NODES, ONE_SIDED, OTHERS, PEELS, QUERIES, SHORT_PRESENCE, TURNS};
+use super::presence::{UNSTAMPED, WORDS_BESIDE_6};
 use super::samples::{BY_NO_INDEX, LIMITS_FROM_0, NO_INDEX, PAIRS, PEELS_FROM_0, SHORT_FROM_0};
 use super::*;
 
@@ -14,14 +17,7 @@ struct Store {
 impl Store {
     fn new(operators: u16, rides: u16, pairs: &[(u16, u16)]) -> Self {
         let head = Head { operators, rides, pairs: pairs.len() as u16 };
-        let lengths = head.lengths().map(|needed| needed + 2);
-        let mut parts = Parts {
-            operators: vec![7; lengths.operators],
-            rides: vec![7; lengths.rides],
-            stamps: vec![7; lengths.stamps],
-            revisions: vec![7; lengths.revisions],
-            index: vec![7; lengths.index],
-        };
+        let mut parts = head.lengths().map(|needed| vec![7; needed + 2], |needed| vec![7; needed + 2]);
         for (place, pair) in pairs.iter().enumerate() {
             (parts.operators[place], parts.rides[place]) = *pair;
         }
@@ -34,12 +30,13 @@ impl Store {
 
     fn query(&self, alpha: u16, beta: u16) -> (Counts, Vec<u16>) {
         let mut marks = vec![9; self.head.nodes()];
-        let counts = query(self.head, &self.parts.index, alpha, beta, &mut marks);
+        let counts = query(self.head, &self.parts.index, &self.parts.presence, alpha, beta, &mut marks);
         (counts, marks)
     }
 
     fn peel(&self, marks: &mut [u16], alpha: u16, beta: u16, steps: u16) -> Peeled {
-        peel(self.head, &self.parts.operators, &self.parts.rides, marks, alpha, beta, steps)
+        let Vectors { operators, rides, presence, .. } = &self.parts;
+        peel(self.head, operators, rides, presence, marks, alpha, beta, steps)
     }
 
     fn message(&mut self, one: Message) -> Answer {
@@ -85,6 +82,9 @@ fn rows() {
     assert_eq!(board.parts.rides, [0, 1, 0, 1, 1, 2, 2, 0, 0, 0, 0, 0, 7, 7]);
     assert_eq!(board.parts.stamps, [1, 1, 0, 1, 1, 0, 0, 1, 1, 0, 0, 1, 7, 7]);
     assert_eq!(board.parts.revisions, [0, 0, 0, 0, 0, 0, 0, 0, 0, 0, 0, 0, 7, 7]);
+    assert_eq!(board.parts.presence_stamps, [0, 0, 0, 0, 0, 0, 0, 7, 7]);
+    assert_eq!(board.parts.presence_revisions, [0, 0, 0, 0, 0, 0, 0, 7, 7]);
+    assert_eq!(board.parts.presence, [1, 1, 1, 1, 1, 1, 1, 7, 7]);
 }
 
 #[test]
@@ -119,7 +119,7 @@ fn queries_go_by_the_index() {
     let head = Head { operators: 2, rides: 2, pairs: 0 };
     for &(alpha, beta, expected) in BY_NO_INDEX {
         let mut marks = [9; 4];
-        let counts = query(head, &NO_INDEX, alpha, beta, &mut marks);
+        let counts = query(head, &NO_INDEX, &[PRESENT; 4], alpha, beta, &mut marks);
         let (operators, rides) = (expected[0] + expected[1], expected[2] + expected[3]);
         assert_eq!((counts, marks), (Counts { code: 0, operators, rides }, expected));
     }
@@ -131,14 +131,15 @@ fn queries_go_by_the_index() {
 fn refused_queries() {
     for &(operators, rides, index, marks, (alpha, beta)) in SHORT_FROM_0 {
         let head = Head { operators, rides, pairs: 0 };
+        let presence = vec![PRESENT; head.nodes()];
         let mut left = vec![9; marks];
-        let counts = query(head, &vec![1; index], alpha, beta, &mut left);
+        let counts = query(head, &vec![1; index], &presence, alpha, beta, &mut left);
         assert_eq!((counts, left), (Counts { code: 3, operators: 0, rides: 0 }, vec![9; marks]));
-        assert_eq!(query(head, &vec![1; head.words()], alpha, beta, &mut vec![9; head.nodes()]).code, 0);
+        assert_eq!(query(head, &vec![1; head.words()], &presence, alpha, beta, &mut vec![9; head.nodes()]).code, 0);
     }
     for (alpha, beta) in [(0, 0), (0, 1), (1, 0)] {
         for (operators, rides, code) in [(201, 61, 1), (200, 61, 2)] {
-            let counts = query(Head { operators, rides, pairs: 0 }, &[], alpha, beta, &mut []);
+            let counts = query(Head { operators, rides, pairs: 0 }, &[], &[], alpha, beta, &mut []);
             assert_eq!(counts, Counts { code, operators: 0, rides: 0 });
         }
     }
@@ -225,23 +226,43 @@ fn cover_sample() {
     assert_eq!(cover(&input(&[4, 3, 1, 0, 2, 0])), b"refused 13\n");
 }
 
-/// Definition 2.1 over every set of every table of up to 3 by 3, for limits from 0: inside any marks there is a largest
-/// set that meets the limits, and a peel settles on it. From all ones it is the cover, and what a query marks after a
-/// build.
+/// Sends an operator home, or takes a ride out of service.
+fn absent(board: &mut Store, node: usize) {
+    let n = board.head.operators as usize;
+    let one = if node < n {
+        unrevised(OPERATOR_OFF, node as u16, 0, 9)
+    } else {
+        unrevised(RIDE_OUT, 0, (node - n) as u16, 9)
+    };
+    assert_eq!(board.message(one).code, 0);
+}
+
+/// Definition 2.1 over every set of every table of up to 3 by 3, for limits from 0 and whoever is off and out: inside any
+/// marks there is a largest set that meets the limits, and a peel settles on it. From all ones it is the cover, and what a
+/// query marks.
 #[test]
 fn cover_is_the_largest() {
-    for (n, m) in [(0, 0), (0, 2), (2, 0), (1, 3), (3, 1), (2, 3), (3, 2), (3, 3)] {
-        for table in 0..1u32 << (n * m) {
+    for (n, m) in [(0, 0), (0, 2), (2, 0), (2, 2), (1, 3), (3, 1), (2, 3), (3, 2), (3, 3)] {
+        // Those who are off or out, as bits: all such sets on the smaller boards, and a few on the others.
+        let absences: Vec<u32> = match n + m {
+            0..=4 => (0..1 << (n + m)).collect(),
+            5 => vec![0, 1, 1 << n, 1 | 1 << 4, (1 << 5) - 1],
+            _ => vec![0, 1 << 1 | 1 << n],
+        };
+        for (table, absence) in (0..1u32 << (n * m)).flat_map(|table| absences.iter().map(move |set| (table, *set))) {
             let at = |o: usize, r: usize| table >> (o * m + r) & 1 == 1;
             let pairs: Vec<(u16, u16)> =
                 (0..n * m).filter(|p| at(p / m, p % m)).map(|p| ((p / m) as u16, (p % m) as u16)).collect();
             let mut board = Store::new(n as u16, m as u16, &pairs);
             assert_eq!(board.build(1), 0);
-            let clearances = Clearances::new(board.head, &pairs.iter().copied().collect());
+            (0..n + m).filter(|node| absence >> node & 1 == 1).for_each(|node| absent(&mut board, node));
+            let counting = Counting::new(board.head, &pairs.iter().copied().collect(), &board.parts.presence);
             for (alpha, beta) in (0..=m + 1).flat_map(|a| (0..=n + 1).map(move |b| (a, b))) {
+                // Whoever meets a limit is on or in, and so are all that it is counted with.
                 let meets = |set: &u32| {
                     let has = |node: usize| set >> node & 1 == 1;
-                    (0..n).all(|o| !has(o) || (0..m).filter(|&r| has(n + r) && at(o, r)).count() >= alpha)
+                    set & absence == 0
+                        && (0..n).all(|o| !has(o) || (0..m).filter(|&r| has(n + r) && at(o, r)).count() >= alpha)
                         && (0..m).all(|r| !has(n + r) || (0..n).filter(|&o| has(o) && at(o, r)).count() >= beta)
                 };
                 let marks = |set: u32| (0..n + m).map(|node| (set >> node & 1) as u16).collect::<Vec<u16>>();
@@ -255,7 +276,7 @@ fn cover_is_the_largest() {
                     assert_eq!((peeled, left), (Peeled { code: 0, settled: 1, steps }, marks(largest)));
                 }
                 let largest = marks(sets.iter().fold(0, |all, set| all | set));
-                let (operators, rides) = core(&clearances, alpha, beta);
+                let (operators, rides) = core(&counting, alpha, beta);
                 let found: Vec<u16> =
                     (0..n).map(|o| operators.has(o)).chain((0..m).map(|r| rides.has(r))).map(u16::from).collect();
                 assert_eq!(found, largest);
@@ -347,88 +368,376 @@ fn built_revisions() {
     }
 }
 
-// Demand 3 on small boards
+// Operators who have gone home, and rides out of service
 
-/// The pair's latest entry in the book: stamp, revision and kind; all 0 where it has none.
-type Latest = (u32, u16, u16);
-
-/// The book of a table: for each pair its latest entry.
-fn booked(head: Head, pairs: &[(u16, u16)], start: u32) -> Vec<Latest> {
-    let mut book = vec![(0, 0, 0); head.places()];
-    pairs.iter().for_each(|&(operator, ride)| book[head.place(operator, ride)] = (start, 0, GRANT));
-    book
-}
-
-/// Enters a message that is in range, where it is valid.
-fn enter(book: &mut [Latest], head: Head, one: Message) {
-    if one.revision <= 255 {
-        let latest = &mut book[head.place(one.operator, one.ride)];
-        *latest = (one.stamp, one.revision, one.kind).max(*latest);
-    }
-}
-
-/// The board that is worked out from a book.
-fn worked_out(head: Head, book: &[Latest]) -> Store {
-    let listed: Vec<(u16, u16)> = (0..head.operators)
-        .flat_map(|operator| (0..head.rides).map(move |ride| (operator, ride)))
-        .filter(|&(operator, ride)| book[head.place(operator, ride)].2 == GRANT)
-        .collect();
-    let mut board = Store::new(head.operators, head.rides, &listed);
-    assert_eq!(board.build(1), 0);
-    for (place, &(stamp, revision, _)) in book.iter().enumerate() {
-        (board.parts.stamps[place], board.parts.revisions[place]) = (stamp, revision);
-    }
+/// Document 01's board, built at 5, with these words of presence.
+fn with_presence(words: &[u16]) -> Store {
+    let mut board = sample(START);
+    board.parts.presence[..words.len()].copy_from_slice(words);
     board
 }
 
-/// For each pair of 2 by 2 a grant and a withdrawal of the stamps 4, 5 and 6 and of the revisions 0, 1, 255 and 256.
-fn few_messages() -> [Message; 96] {
-    std::array::from_fn(|place| {
-        let i = place as u16;
-        let revision = [0, 1, 255, 256][place / 24];
-        Message { kind: 1 + i % 2, operator: i / 2 % 2, ride: i / 4 % 2, revision, stamp: 4 + i as u32 / 8 % 3 }
-    })
+/// What a board has of a message that was taken: its stamp and revision, and of an operator or ride its word.
+fn stored(board: &mut Store, one: Message) {
+    let Store { head, parts } = board;
+    let node = match one.kind {
+        1 | 2 => {
+            let place = head.place(one.operator, one.ride);
+            (parts.stamps[place], parts.revisions[place]) = (one.stamp, one.revision);
+            return;
+        }
+        3 | 4 => one.operator as usize,
+        _ => head.operators as usize + one.ride as usize,
+    };
+    (parts.presence_stamps[node], parts.presence_revisions[node]) = (one.stamp, one.revision);
+    parts.presence[node] = one.kind % 2;
 }
 
-/// After each list of messages of the kinds 1 and 2 the board is the one worked out from the latest message of each pair.
+/// The three rows of an index, the third of zeros, and the two places behind them.
+fn index_of_rows(rows: &Rows) -> Vec<u16> {
+    [&rows[0][..], &rows[1], &[0; 7], &[7; 2]].concat()
+}
+
+/// Sends messages, each with its preview first. Gives the answers.
+fn previewed_and_sent(board: &mut Store, messages: &[Message]) -> Vec<Answer> {
+    let mut answers = Vec::new();
+    for one in messages {
+        let came = spare(board.head, 2, 8);
+        let (answer, left) = previewed(board, *one, came.clone());
+        assert_eq!(board.message(*one), answer);
+        assert_eq!(left, if answer.code == 0 { held(board, &came) } else { came });
+        answers.push(answer);
+    }
+    answers
+}
+
+/// The board after the messages of a delivery.
+fn delivered(delivery: &Delivery) -> Store {
+    let mut board = Store::new(4, 3, delivery.pairs);
+    assert_eq!(board.build(START), 0);
+    board.parts.stamps = sample(START).parts.stamps;
+    delivery.sent.iter().filter(|sent| sent.1 == 0).for_each(|sent| stored(&mut board, sent.0));
+    board.parts.presence[..7].copy_from_slice(&delivery.left);
+    board.parts.index = index_of_rows(&delivery.rows);
+    board
+}
+
+/// By message calls, each with its preview first, and by a list. Whatever index came in, the one that is left is the same.
 #[test]
-fn delivered_is_the_latest_of_each_pair() {
-    let pool = few_messages();
-    let (pairs, start) = ([(0, 1), (1, 0)], 5);
-    let mut state = 1u32;
-    for _ in 0..2000 {
-        let mut board = Store::new(2, 2, &pairs);
-        assert_eq!(board.build(start), 0);
-        let mut book = booked(board.head, &pairs, start);
-        for _ in 0..24 {
-            state = state.wrapping_mul(1_664_525).wrapping_add(1_013_904_223);
-            let one = pool[(state >> 16) as usize % pool.len()];
-            board.message(one);
-            enter(&mut book, board.head, one);
-            assert_eq!(board, worked_out(board.head, &book));
+fn present_and_absent() {
+    for delivery in DELIVERIES {
+        let messages = delivery.messages();
+        let mut board = with_presence(&delivery.came);
+        let answers: Vec<Answer> = delivery.sent.iter().map(|&(_, code, differ)| Answer { code, differ }).collect();
+        assert_eq!(previewed_and_sent(&mut board, &messages), answers);
+        assert_eq!(board, delivered(delivery));
+        for word in [0, 9] {
+            let mut board = with_presence(&delivery.came);
+            board.parts.index[..21].fill(word);
+            assert_eq!((board.messages(&messages), board), ((0, delivery.numbers()), delivered(delivery)));
         }
     }
 }
 
-/// Every list of three messages for one pair, listed or not, by message calls and by a list.
+/// Words past the pair count are zeroed by a taken message of each kind, and left by a refused one.
 #[test]
-fn three_messages_for_one_pair() {
-    let pool: Vec<Message> = few_messages().into_iter().filter(|one| (one.operator, one.ride) == (0, 0)).collect();
-    let lists = pool.iter().flat_map(|a| pool.iter().flat_map(|b| pool.iter().map(|c| [*a, *b, *c])));
+fn tails_of_all_kinds() {
+    for (kind, operator, ride) in [
+        (GRANT, 3, 1),
+        (WITHDRAWAL, 0, 0),
+        (OPERATOR_ON, 2, 0),
+        (OPERATOR_OFF, 2, 0),
+        (RIDE_IN, 0, 1),
+        (RIDE_OUT, 0, 1),
+    ] {
+        let mut came = sample(START);
+        came.parts.operators[7..].fill(8);
+        came.parts.rides[7..].fill(8);
+        let mut board = came.clone();
+        assert_eq!(board.message(unrevised(kind, operator, ride, 0)).code, 9);
+        assert_eq!(board, came);
+        assert_eq!(board.message(unrevised(kind, operator, ride, 9)).code, 0);
+        let pairs = board.head.pairs as usize;
+        assert_eq!(board.parts.operators[pairs..], [&vec![0; 12 - pairs][..], &[8; 2]].concat());
+        assert_eq!(board.parts.rides[pairs..], [&vec![0; 12 - pairs][..], &[8; 2]].concat());
+    }
+}
+
+/// Document 01's board, built at 5, with an operator's or ride's last before its messages.
+fn before_turns(turns: &Turns, node: &Node) -> Store {
+    let mut board = sample(START);
+    lasts(&mut board, OTHERS);
+    last_at(&mut board, node.place, turns.stored);
+    board
+}
+
+fn last_at(board: &mut Store, node: usize, (word, revision, stamp): (u16, u16, u32)) {
+    board.parts.presence[node] = word;
+    board.parts.presence_revisions[node] = revision;
+    board.parts.presence_stamps[node] = stamp;
+}
+
+fn lasts(board: &mut Store, last: (u16, u16, u32)) {
+    (0..board.head.nodes()).for_each(|node| last_at(board, node, last));
+}
+
+#[test]
+fn later_of_an_operator_or_ride() {
+    for (turns, node) in TURNS.iter().flat_map(|turns| NODES.iter().map(move |node| (turns, node))) {
+        let (messages, numbers) = (turns.messages(node), turns.numbers());
+        let mut expected = before_turns(turns, node);
+        last_at(&mut expected, node.place, turns.left);
+        expected.parts.index = index_of_rows(&turns.rows(node));
+        let mut board = before_turns(turns, node);
+        let codes: Vec<u16> = previewed_and_sent(&mut board, &messages).iter().map(|answer| answer.code).collect();
+        assert_eq!((&codes, &board), (&numbers, &expected));
+        let mut board = before_turns(turns, node);
+        assert_eq!((board.messages(&messages), board), ((0, numbers), expected));
+    }
+}
+
+#[test]
+fn numbers_beside_15() {
+    for &(one, code) in BESIDE_15 {
+        let mut came = sample(START);
+        lasts(&mut came, BEFORE_15);
+        let mut board = came.clone();
+        assert_eq!(previewed_and_sent(&mut board, &[one])[0].code, code);
+        assert_eq!(board == came, code != 0);
+        assert_eq!(came.messages(&[one]), (0, vec![code]));
+        assert_eq!(came, board);
+    }
+}
+
+/// For each kind of message, and whether the pair counts or not.
+#[test]
+fn unstamped_pairs() {
+    for words in WORDS_BESIDE_6 {
+        let mut came = with_presence(&words);
+        came.parts.stamps[came.head.place(UNSTAMPED.0, UNSTAMPED.1)] = 0;
+        for &one in BESIDE_6 {
+            let mut board = came.clone();
+            assert_eq!(previewed_and_sent(&mut board, &[one]), [Answer { code: 6, differ: 0 }]);
+            assert_eq!(board.messages(&[one]), (6, vec![9]));
+            assert_eq!(board, came);
+        }
+    }
+}
+
+#[test]
+fn one_sided_boards() {
+    for &(head, one, code) in ONE_SIDED {
+        let mut built = Store::new(head.operators, head.rides, &[]);
+        assert_eq!(built.build(START), 0);
+        let mut expected = built.clone();
+        if code == 0 {
+            stored(&mut expected, one);
+        }
+        let mut board = built.clone();
+        assert_eq!(previewed_and_sent(&mut board, &[one]), [Answer { code, differ: 0 }]);
+        assert_eq!(board, expected);
+        assert_eq!(built.messages(&[one]), (0, vec![code]));
+        assert_eq!(built, expected);
+        // With both limits 0 those who are on or in are marked, and nobody else.
+        let present: Vec<u16> = board.parts.presence[..3].iter().map(|word| (*word == 1) as u16).collect();
+        assert_eq!(board.query(0, 0).1, present);
+        let mut marks = [1; 3];
+        board.peel(&mut marks, 0, 0, 65535);
+        assert_eq!(marks[..], present);
+    }
+}
+
+#[test]
+fn short_presence() {
+    let cuts: [fn(&mut Vectors, usize); 3] = [
+        |parts, places| parts.presence_stamps.truncate(places),
+        |parts, places| parts.presence_revisions.truncate(places),
+        |parts, places| parts.presence.truncate(places),
+    ];
+    for &(head, places, code) in SHORT_PRESENCE {
+        for cut in cuts {
+            let mut came = Store { head, ..Store::new(head.operators, head.rides, &PAIRS) };
+            cut(&mut came.parts, places);
+            let mut board = came.clone();
+            assert_eq!((board.build(START), board == came), (code, code != 0));
+            for one in [WITHDRAWN, unrevised(OPERATOR_OFF, 2, 0, 9), unrevised(RIDE_OUT, 0, 1, 9)] {
+                let mut board = came.clone();
+                assert_eq!((board.message(one).code, board == came), (code, code != 0));
+                let mut board = came.clone();
+                let answers = if code == 0 { vec![0] } else { vec![9] };
+                assert_eq!((board.messages(&[one]), board == came), ((code, answers), code != 0));
+                assert_eq!(previewed(&came, one, spare(head, 0, 8)).0.code, code);
+            }
+        }
+        let mut board = Store { head, ..Store::new(head.operators, head.rides, &PAIRS) };
+        board.parts.presence.truncate(places);
+        let mut marks = vec![1; head.nodes()];
+        assert_eq!(board.peel(&mut marks, 1, 1, 65535).code, code);
+        // A query reads no pairs.
+        assert_eq!(board.query(1, 1).0.code, if code == 4 { 0 } else { code });
+    }
+}
+
+/// A build writes 1 over any words of presence, and 0 over their stamps and revisions; it leaves what lies behind.
+#[test]
+fn built_presence() {
+    for words in BUILT_OVER {
+        let mut board = sample(START);
+        lasts(&mut board, (1, 300, 9));
+        board.parts.presence[..7].copy_from_slice(&words);
+        assert_eq!(board.build(START), 0);
+        assert_eq!(board, sample(START));
+        assert_eq!(board.parts.index, index_of_rows(&ALL_COUNT));
+    }
+}
+
+#[test]
+fn queries_of_the_absent() {
+    for &(words, index, (alpha, beta), marks) in QUERIES {
+        let mut board = with_presence(&words);
+        board.parts.index[..21].copy_from_slice(&index);
+        let (operators, rides) = (marks[..4].iter().sum(), marks[4..].iter().sum());
+        assert_eq!(board.query(alpha, beta), (Counts { code: 0, operators, rides }, marks.to_vec()));
+    }
+}
+
+#[test]
+fn peels_of_the_absent() {
+    for &(words, marks, (alpha, beta), steps, numbers, expected) in PEELS {
+        let mut left: Words = marks;
+        let Peeled { code, settled, steps } = with_presence(&words).peel(&mut left, alpha, beta, steps);
+        assert_eq!(([code, settled, steps], left), (numbers, expected));
+    }
+}
+
+// Demand 3 on small boards
+
+/// The latest entry of a pair, an operator or a ride in the book: stamp, revision and kind; all 0 where it has none.
+type Latest = (u32, u16, u16);
+
+/// The book: for each pair, and for each operator and ride, its latest entry.
+#[derive(Clone)]
+struct Book {
+    head: Head,
+    pairs: Vec<Latest>,
+    nodes: Vec<Latest>,
+}
+
+impl Book {
+    /// That of a table.
+    fn new(head: Head, pairs: &[(u16, u16)], start: u32) -> Self {
+        let mut book = Book { head, pairs: vec![(0, 0, 0); head.places()], nodes: vec![(0, 0, 0); head.nodes()] };
+        pairs.iter().for_each(|&(operator, ride)| book.pairs[head.place(operator, ride)] = (start, 0, GRANT));
+        book
+    }
+
+    /// Enters a message that is in range, where it is valid.
+    fn enter(&mut self, one: Message) {
+        let (latest, unused) = match one.kind {
+            1 | 2 => (&mut self.pairs[self.head.place(one.operator, one.ride)], 0),
+            3 | 4 => (&mut self.nodes[one.operator as usize], one.ride),
+            _ => (&mut self.nodes[self.head.operators as usize + one.ride as usize], one.operator),
+        };
+        if one.revision <= 255 && unused == 0 {
+            *latest = (one.stamp, one.revision, one.kind).max(*latest);
+        }
+    }
+
+    /// Whether an operator or ride is on or in: without an entry, or with a latest one of kind 3 or 5.
+    fn is_present(&self, node: usize) -> bool {
+        matches!(self.nodes[node].2, 0 | OPERATOR_ON | RIDE_IN)
+    }
+
+    /// The board that is worked out from it. Its index is that of a build of the pairs that count, and of no others.
+    fn worked_out(&self) -> Store {
+        let head = self.head;
+        let listed: Vec<(u16, u16)> = (0..head.operators)
+            .flat_map(|operator| (0..head.rides).map(move |ride| (operator, ride)))
+            .filter(|&(operator, ride)| self.pairs[head.place(operator, ride)].2 == GRANT)
+            .collect();
+        let mut board = Store::new(head.operators, head.rides, &listed);
+        assert_eq!(board.build(1), 0);
+        for (place, &(stamp, revision, _)) in self.pairs.iter().enumerate() {
+            (board.parts.stamps[place], board.parts.revisions[place]) = (stamp, revision);
+        }
+        for (node, &(stamp, revision, _)) in self.nodes.iter().enumerate() {
+            last_at(&mut board, node, (self.is_present(node) as u16, revision, stamp));
+        }
+        let operators = head.operators as usize;
+        let counts =
+            |pair: &(u16, u16)| self.is_present(pair.0 as usize) && self.is_present(operators + pair.1 as usize);
+        let counting: Vec<(u16, u16)> = listed.into_iter().filter(counts).collect();
+        let mut counted = Store::new(head.operators, head.rides, &counting);
+        assert_eq!(counted.build(1), 0);
+        board.parts.index = counted.parts.index;
+        board
+    }
+}
+
+/// For each pair, operator and ride of 2 by 2 a message of each of its two kinds, of the stamps 4, 5 and 6 and of the
+/// revisions 0, 1, 255 and 256; and messages for an operator or ride whose unused field is 1.
+fn few_messages() -> Vec<Message> {
+    let mut messages = Vec::new();
+    for (revision, stamp) in [0, 1, 255, 256].into_iter().flat_map(|revision| [4, 5, 6].map(|stamp| (revision, stamp)))
+    {
+        let message = |kind, operator, ride| Message { kind, operator, ride, revision, stamp };
+        for kind in [GRANT, WITHDRAWAL] {
+            messages.extend([(0, 0), (0, 1), (1, 0), (1, 1)].map(|(operator, ride)| message(kind, operator, ride)));
+        }
+        for number in [0, 1] {
+            messages.extend([OPERATOR_ON, OPERATOR_OFF].map(|kind| message(kind, number, 0)));
+            messages.extend([RIDE_IN, RIDE_OUT].map(|kind| message(kind, 0, number)));
+        }
+        messages.extend([message(OPERATOR_OFF, stamp as u16 % 2, 1), message(RIDE_OUT, 1, stamp as u16 % 2)]);
+    }
+    messages
+}
+
+/// After each list of messages of the six kinds the board is the one worked out from the latest message of each pair,
+/// operator and ride.
+#[test]
+fn delivered_is_the_latest_of_each() {
+    let pool = few_messages();
+    let (pairs, start) = ([(0, 1), (1, 0), (1, 1)], 5);
+    let mut state = 1u32;
+    for _ in 0..2000 {
+        let mut board = Store::new(2, 2, &pairs);
+        assert_eq!(board.build(start), 0);
+        let mut book = Book::new(board.head, &pairs, start);
+        for _ in 0..24 {
+            state = state.wrapping_mul(1_664_525).wrapping_add(1_013_904_223);
+            let one = pool[(state >> 16) as usize % pool.len()];
+            board.message(one);
+            book.enter(one);
+            assert_eq!(board, book.worked_out());
+        }
+    }
+}
+
+/// Every list of three messages for one pair, listed or not, for one operator and for one ride, by message calls and by a
+/// list.
+#[test]
+fn three_messages_for_one() {
     let built = [&[][..], &[(0, 0)]].map(|pairs| {
         let mut board = Store::new(1, 1, pairs);
         assert_eq!(board.build(5), 0);
-        let book = booked(board.head, pairs, 5);
+        let book = Book::new(board.head, pairs, 5);
         (board, book)
     });
-    for list in lists {
-        for (board, book) in &built {
-            let (mut sent, mut listed, mut book) = (board.clone(), board.clone(), book.clone());
-            let answers: Vec<u16> = list.iter().map(|one| sent.message(*one).code).collect();
-            assert_eq!(listed.messages(&list), (0, answers));
-            list.iter().for_each(|one| enter(&mut book, board.head, *one));
-            let expected = worked_out(board.head, &book);
-            assert_eq!((&sent, &listed), (&expected, &expected));
+    for kinds in [[GRANT, WITHDRAWAL], [OPERATOR_ON, OPERATOR_OFF], [RIDE_IN, RIDE_OUT]] {
+        let is_for_one = |one: &Message| kinds.contains(&one.kind) && (one.operator, one.ride) == (0, 0);
+        let pool: Vec<Message> = few_messages().into_iter().filter(is_for_one).collect();
+        assert_eq!(pool.len(), 24);
+        let lists = pool.iter().flat_map(|a| pool.iter().flat_map(|b| pool.iter().map(|c| [*a, *b, *c])));
+        for list in lists {
+            for (board, book) in &built {
+                let (mut sent, mut listed, mut book) = (board.clone(), board.clone(), book.clone());
+                let answers: Vec<u16> = list.iter().map(|one| sent.message(*one).code).collect();
+                assert_eq!(listed.messages(&list), (0, answers));
+                list.iter().for_each(|one| book.enter(*one));
+                let expected = book.worked_out();
+                assert_eq!((&sent, &listed), (&expected, &expected));
+            }
         }
     }
 }
@@ -443,25 +752,21 @@ const WITHDRAWN: Message = Message { kind: WITHDRAWAL, operator: 1, ride: 0, rev
 /// Spare memory for a board of this head: one word in every place, the head of no board, and so many places more in each
 /// part than are needed.
 fn spare(head: Head, longer: usize, word: u16) -> Store {
-    let lengths = head.lengths().map(|needed| needed + longer);
-    let parts = Parts {
-        operators: vec![word; lengths.operators],
-        rides: vec![word; lengths.rides],
-        stamps: vec![word as u32; lengths.stamps],
-        revisions: vec![word; lengths.revisions],
-        index: vec![word; lengths.index],
-    };
+    let parts = head.lengths().map(|needed| vec![word; needed + longer], |needed| vec![word as u32; needed + longer]);
     Store { head: NO_HEAD, parts }
 }
 
-/// Cuts the last place of one of the five parts.
+/// Cuts the last place of one of the eight parts.
 fn cut(parts: &mut Vectors, part: usize) {
     match part {
         0 => drop(parts.operators.pop()),
         1 => drop(parts.rides.pop()),
         2 => drop(parts.stamps.pop()),
         3 => drop(parts.revisions.pop()),
-        _ => drop(parts.index.pop()),
+        4 => drop(parts.index.pop()),
+        5 => drop(parts.presence_stamps.pop()),
+        6 => drop(parts.presence_revisions.pop()),
+        _ => drop(parts.presence.pop()),
     }
 }
 
@@ -473,7 +778,7 @@ fn previewed(board: &Store, one: Message, mut spare: Store) -> (Answer, Store) {
     (answer, spare)
 }
 
-/// For each of 1 to 10 and 14 boards and messages that it alone applies to.
+/// For each of 1 to 10, 14 and 15 boards and messages that it alone applies to.
 fn refused() -> Vec<(u16, Store, Message)> {
     let changed = |code, change: fn(&mut Store, &mut Message)| {
         let (mut board, mut one) = (sample(5), WITHDRAWN);
@@ -488,20 +793,35 @@ fn refused() -> Vec<(u16, Store, Message)> {
         changed(3, |board, _| board.parts.stamps.truncate(11)),
         changed(3, |board, _| board.parts.revisions.truncate(11)),
         changed(3, |board, _| board.parts.index.truncate(20)),
+        changed(3, |board, _| board.parts.presence_stamps.truncate(6)),
+        changed(3, |board, _| board.parts.presence_revisions.truncate(6)),
+        changed(3, |board, _| board.parts.presence.truncate(6)),
         changed(4, |board, _| board.head.pairs = 13),
         changed(5, |board, _| board.parts.operators[6] = 4),
         changed(5, |board, _| board.parts.rides.swap(0, 1)),
         changed(6, |board, _| board.parts.stamps[0] = 0),
         changed(7, |_, one| one.kind = 0),
-        changed(7, |_, one| one.kind = 3),
+        changed(7, |_, one| one.kind = 7),
         changed(8, |_, one| one.operator = 4),
         changed(8, |_, one| one.ride = 3),
+        changed(8, |_, one| (one.kind, one.operator) = (OPERATOR_OFF, 4)),
+        changed(8, |_, one| *one = unrevised(RIDE_OUT, 0, 3, 9)),
         changed(9, |_, one| one.stamp = 0),
         changed(10, |_, one| one.stamp = 4),
         changed(10, |_, one| *one = unrevised(GRANT, 1, 0, 5)),
         changed(10, |board, one| (board.parts.stamps[3], board.parts.revisions[3]) = (one.stamp, 5)),
+        changed(10, |board, one| {
+            one.kind = OPERATOR_OFF;
+            last_at(board, 1, (0, one.revision, one.stamp));
+        }),
+        changed(10, |board, one| {
+            *one = unrevised(RIDE_IN, 0, 2, 9);
+            last_at(board, 6, (1, 0, 9));
+        }),
         changed(14, |_, one| one.revision = 256),
         changed(14, |_, one| one.revision = 65_535),
+        changed(15, |_, one| (one.kind, one.ride) = (OPERATOR_OFF, 1)),
+        changed(15, |_, one| one.kind = RIDE_IN),
     ]
 }
 
@@ -517,6 +837,9 @@ fn previewed_withdrawal() {
     assert_eq!(spare.parts.rides, [0, 1, 1, 1, 2, 2, 0, 0, 0, 0, 0, 0, 8, 8, 8]);
     assert_eq!(spare.parts.stamps, [5, 5, 0, 9, 5, 0, 0, 5, 5, 0, 0, 5, 8, 8, 8]);
     assert_eq!(spare.parts.revisions, [0, 0, 0, 4, 0, 0, 0, 0, 0, 0, 0, 0, 8, 8, 8]);
+    assert_eq!(spare.parts.presence_stamps, [0, 0, 0, 0, 0, 0, 0, 8, 8, 8]);
+    assert_eq!(spare.parts.presence_revisions, [0, 0, 0, 0, 0, 0, 0, 8, 8, 8]);
+    assert_eq!(spare.parts.presence, [1, 1, 1, 1, 1, 1, 1, 8, 8, 8]);
     assert_eq!(spare.row(1), [3, 3, 3, 2, 1, 3, 2]);
     assert_eq!(spare.row(2), [1, 0, 1, 0, 1, 1, 1]);
     assert_eq!(spare.row(3), [0; 7]);
@@ -539,6 +862,29 @@ fn previewed_grant() {
     assert_eq!(spare.parts.revisions, [300, 0, 0, 0, 0, 0, 0, 0, 0, 0, 255, 0, 8]);
     assert_eq!(spare.row(1), [4, 4, 4, 4, 2, 4, 2]);
     assert_eq!(spare.row(2), [2; 7]);
+    assert_eq!(spare.row(3), [0; 7]);
+    assert_eq!(spare.parts.index[21..], [8]);
+}
+
+/// Operator 2 goes while ride 2 has the word 7: (0, 0), (0, 1), (1, 0), (1, 1) count. Of row 1 and row 2 the words of operators
+/// 2 and 3 and ride 2 are 0, and the others 2: 6 and 2 words differ from the build's.
+#[test]
+fn previewed_presence() {
+    let mut board = sample(1);
+    last_at(&mut board, 6, (7, 300, 4));
+    let one = Message { kind: OPERATOR_OFF, operator: 2, ride: 0, revision: 255, stamp: 2 };
+    let (answer, spare) = previewed(&board, one, spare(board.head, 1, 8));
+    assert_eq!(answer, Answer { code: 0, differ: 8 });
+    assert_eq!(spare.head, board.head);
+    assert_eq!(spare.parts.operators, [0, 0, 1, 1, 2, 2, 3, 0, 0, 0, 0, 0, 8]);
+    assert_eq!(spare.parts.rides, [0, 1, 0, 1, 1, 2, 2, 0, 0, 0, 0, 0, 8]);
+    assert_eq!(spare.parts.stamps, [1, 1, 0, 1, 1, 0, 0, 1, 1, 0, 0, 1, 8]);
+    assert_eq!(spare.parts.revisions, [0, 0, 0, 0, 0, 0, 0, 0, 0, 0, 0, 0, 8]);
+    assert_eq!(spare.parts.presence_stamps, [0, 0, 2, 0, 0, 0, 4, 8]);
+    assert_eq!(spare.parts.presence_revisions, [0, 0, 255, 0, 0, 0, 300, 8]);
+    assert_eq!(spare.parts.presence, [1, 1, 0, 1, 1, 1, 7, 8]);
+    assert_eq!(spare.row(1), [2, 2, 0, 0, 2, 2, 0]);
+    assert_eq!(spare.row(2), [2, 2, 0, 0, 2, 2, 0]);
     assert_eq!(spare.row(3), [0; 7]);
     assert_eq!(spare.parts.index[21..], [8]);
 }
@@ -584,7 +930,7 @@ fn short_spare_memory() {
     let taken = (0, sample(5), WITHDRAWN);
     assert_eq!(previewed(&taken.1, taken.2, spare(taken.1.head, 0, 8)).0.code, 0);
     for (code, board, one) in refused().into_iter().chain([taken]) {
-        for part in 0..5 {
+        for part in 0..8 {
             let mut came = spare(board.head, 0, 8);
             cut(&mut came.parts, part);
             let code = if code == 1 || code == 2 { code } else { 3 };
@@ -602,19 +948,26 @@ fn sizes_of_previews() {
     }
 }
 
-/// Without a ride no place is needed, and without an operator the index alone needs some. There is no pair, so that a
-/// valid kind gets 8.
+/// Without a ride the parts of presence alone need some places, and without an operator these and the index. There is no
+/// pair, so that a grant and a withdrawal get 8.
 #[test]
 fn previews_of_boards_without_pairs() {
     for (operators, rides) in [(0, 0), (3, 0), (0, 3)] {
         let mut board = Store::new(operators, rides, &[]);
         assert_eq!(board.build(5), 0);
-        for (kind, code) in [(GRANT, 8), (WITHDRAWAL, 8), (3, 7)] {
+        let off = if operators > 0 { 0 } else { 8 };
+        let out = if rides > 0 { 0 } else { 8 };
+        for (kind, code) in [(GRANT, 8), (WITHDRAWAL, 8), (OPERATOR_OFF, off), (RIDE_OUT, out), (7, 7)] {
             let one = unrevised(kind, 0, 0, 9);
-            let mut came = spare(board.head, 0, 8);
-            assert_eq!(previewed(&board, one, came.clone()), (Answer { code, differ: 0 }, came.clone()));
-            if came.parts.index.pop().is_some() {
-                assert_eq!(previewed(&board, one, came.clone()), (Answer { code: 3, differ: 0 }, came));
+            let came = spare(board.head, 0, 8);
+            let (answer, left) = previewed(&board, one, came.clone());
+            assert_eq!((answer, left == came), (Answer { code, differ: 0 }, code != 0));
+            for part in 0..8 {
+                let mut short = came.clone();
+                cut(&mut short.parts, part);
+                if short != came {
+                    assert_eq!(previewed(&board, one, short.clone()), (Answer { code: 3, differ: 0 }, short));
+                }
             }
         }
     }
@@ -627,14 +980,9 @@ fn joined<T: Clone>(first: &[T], other: &[T], places: usize) -> Vec<T> {
 
 /// Spare memory that held other words before, with a board in it.
 fn held(board: &Store, came: &Store) -> Store {
-    let (needed, new, old) = (board.head.lengths(), &board.parts, &came.parts);
-    let parts = Parts {
-        operators: joined(&new.operators, &old.operators, needed.operators),
-        rides: joined(&new.rides, &old.rides, needed.rides),
-        stamps: joined(&new.stamps, &old.stamps, needed.stamps),
-        revisions: joined(&new.revisions, &old.revisions, needed.revisions),
-        index: joined(&new.index, &old.index, needed.index),
-    };
+    let both = board.parts.view().zip(came.parts.view()).zip(board.head.lengths());
+    let parts =
+        both.map(|((new, old), places)| joined(new, old, places), |((new, old), places)| joined(new, old, places));
     Store { head: board.head, parts }
 }
 
@@ -668,13 +1016,37 @@ fn frames_are_read_as_written() {
     let kept = Part::kept(12);
     let given = Part::given(14, &[1, 65535], 256);
     let changed = Part::changed(21, 19, &[5, 6, 7]);
-    let (stamps, revisions, index) =
-        (Part::given(12, &[70_000, 1], 65_536), Part::given(13, &[256, 2], 3), Part::filled(3, 1));
-    let parts = Parts { operators: kept.clone(), rides: given.clone(), stamps, revisions, index };
+    let parts = Parts {
+        operators: kept.clone(),
+        rides: given.clone(),
+        stamps: Part::given(12, &[70_000, 1], 65_536),
+        revisions: Part::given(13, &[256, 2], 3),
+        index: Part::filled(3, 1),
+        presence_stamps: Part::given(7, &[65_537, 9], 80_000),
+        presence_revisions: Part::given(8, &[255, 300], 4),
+        presence: Part::given(9, &[0, 7], 1),
+    };
+    let presence = parts.presence.clone();
     let calls = [
         Call::Build { head, start: 65_537, parts: parts.clone() },
-        Call::Query { head, alpha: 1, beta: 2, index: changed.clone(), marks: given.clone() },
-        Call::Peel { head, alpha: 1, beta: 2, steps: 3, operators: given.clone(), rides: kept, marks: changed.clone() },
+        Call::Query {
+            head,
+            alpha: 1,
+            beta: 2,
+            index: changed.clone(),
+            presence: presence.clone(),
+            marks: given.clone(),
+        },
+        Call::Peel {
+            head,
+            alpha: 1,
+            beta: 2,
+            steps: 3,
+            operators: given.clone(),
+            rides: kept,
+            presence,
+            marks: changed.clone(),
+        },
         Call::Message { head, message: one, parts: Parts { index: changed, ..parts.clone() } },
         Call::Messages { head, messages: vec![one; 3], parts, answers: given },
     ];

@@ -1,9 +1,11 @@
 //! Corrections within one stamp: which of two messages is later, revisions over 255, and what a board stores.
 
 mod lent;
+mod orders;
 
 use board::*;
 use lent::Lent;
+use orders::orders;
 
 const PAIRS: [(u16, u16); 7] = [(0, 0), (0, 1), (1, 0), (1, 1), (2, 1), (2, 2), (3, 2)];
 const LENGTHS: [usize; 8] = [12, 12, 12, 12, 21, 7, 7, 7];
@@ -41,18 +43,6 @@ fn corrections_of_one_pair() {
         assert_eq!((board.stamp(0, 0), board.revision(0, 0), listed), (Some(stamp), Some(revision), given), "{one:?}");
     }
     assert_eq!((board.revision(4, 0), board.revision(0, 3)), (None, None));
-}
-
-/// Every order of these messages.
-fn orders(messages: &[Message]) -> Vec<Vec<Message>> {
-    if messages.is_empty() {
-        return vec![Vec::new()];
-    }
-    let with_first = |first: usize| {
-        let rest = [&messages[..first], &messages[first + 1..]].concat();
-        orders(&rest).into_iter().map(move |order| [&[messages[first]], &order[..]].concat())
-    };
-    (0..messages.len()).flat_map(with_first).collect()
 }
 
 /// Two pairs corrected within one stamp end in the same board in every order, one by one and as a list. One message is

@@ -1,68 +1,92 @@
--- Demand 2: the board of a book, queried and peeled from all ones, gives the core of the pairs that it lists. Assumes nothing.
+-- Demand 2: the board of a book, queried and peeled from all ones, gives the core of its pairs that count, of those present. Assumes nothing.
 use mathlib.Core.Path.{_≡_, sym, ap, _∙_, subst}
+use mathlib.Core.Bool.{Bool}
 use mathlib.Core.List.{List, [], _++_}
 use Prim.Native.Nat.{ℕ, _≤_, _<_}
-use lib.ListN.{length, getD}
+use native.Mathlib.Omega.{arith}
+use lib.ListN.{length, getD, length-append}
 use Rattle.model.specs.declared.Head.{Head}
 use Rattle.model.specs.declared.Message.{Message}
-use Rattle.model.specs.Graph.{Graph, index-of}
-use Rattle.model.specs.Layout.{Operators, Rides, Index, Parts, parts, Board, mark-places, board-graph}
-use Rattle.model.specs.Calls.{board-query, board-peel}
+use Rattle.model.specs.Graph.{Graph, nodes, limits, marked, present, index-of}
+use Rattle.model.specs.Layout.{Operators, Rides, Index, Presence, Parts, parts, Board, mark-places, listed-graph, board-graph}
+use Rattle.model.specs.Calls.{QueryOutcome, PeelOutcome, board-query, board-peel}
 use Rattle.model.specs.Demand.{IsCore, IsPeeledCore}
 use Rattle.model.proofs.Cover.{cover-laws}
 use Rattle.model.proofs.Level.{level-laws}
 use Rattle.model.proofs.Peel.{peel-laws}
-use Rattle.model.proofs.Query.{zero-is-no-limit, query-is-core}
-use Rattle.model.proofs.Contents.{extend, graph-extend, index-words}
-use Rattle.model.proofs.EndToEnd.{index-then-query, build-then-query, peel-none, peel-is-core}
+use Rattle.model.proofs.Presence.{largest-start}
+use Rattle.model.proofs.Query.{zero-is-no-limit, query-is-core, presence-laws}
+use Rattle.model.proofs.Contents.{extend, present-extend, graph-extend, index-words}
+use Rattle.model.proofs.EndToEnd.{index-then-query, build-then-query, peel-none, peel-is-largest, peel-is-core}
 use Rattle.model.proofs.Preview.{preview-then-query}
 use Rattle.delivery.specs.Book.{book, written}
 use Rattle.delivery.specs.Core.{CallsThenIndex, CallsThenQuery, CallsThenPeel, Demand2}
 use Rattle.delivery.proofs.Latest.{AllValid}
-use Rattle.delivery.proofs.Run.{says, accepted-written}
+use Rattle.delivery.proofs.Run.{says, laid-written, accepted-written}
 use Rattle.delivery.proofs.Build.{table}
 use Rattle.delivery.proofs.Demand.{board-is-book, valid-book}
+
+-- of those who are here the nodes count alone
+core-start : (g : Graph) (here here′ : ℕ → Bool) (α β : ℕ) (o : QueryOutcome) → ((x : ℕ) → x < nodes g → here x ≡ here′ x) → IsCore g here α β o → IsCore g here′ α β o
+core-start g here here′ α β o same c =
+    record { code = c .code; core = largest-start g (limits (g .operators) α β) here here′ (marked (o .marks)) same (c .core); operators = c .operators; rides = c .rides }
+
+peeled-start : (g : Graph) (here here′ : ℕ → Bool) (α β allowed : ℕ) (o : PeelOutcome) → ((x : ℕ) → x < nodes g → here x ≡ here′ x) → IsPeeledCore g here α β allowed o → IsPeeledCore g here′ α β allowed o
+peeled-start g here here′ α β allowed o same c =
+    record { code = c .code; core = λ e. largest-start g (limits (g .operators) α β) here here′ (marked (o .marks)) same (c .core e); steps = c .steps; settles = c .settles }
 
 module _ (h : Head) (es : List Message) where
   abbrev board : Board
   board = written h es
 
-  written-index : board .part Index ≡ index-of (board-graph board)
+  abbrev here : ℕ → Bool
+  here = present (board .part Presence)
+
+  written-index : (more : Parts) → board .part Index ≡ index-of (board-graph (extend board more))
   unfolding written
-  written-index = index-words h (says h es) (λ p. []) ∙ ap index-of (graph-extend h (says h es) (λ p. []))
+  written-index more = index-words h (says h es) more
+
+  written-own-index : board .part Index ≡ index-of (board-graph board)
+  unfolding written
+  written-own-index = written-index (λ p. []) ∙ ap index-of (graph-extend h (says h es) (λ p. []))
 
   module _ (few : h .operators ≤ 200) (few′ : h .rides ≤ 60) (α β : ℕ) (marks : List ℕ) (long : mark-places h ≤ length marks) where
-    written-query : (more : List ℕ) → IsCore (board-graph board) α β (board-query (board .head) (board .part Index ++ more) α β marks)
+    written-query : (more more′ : List ℕ) → IsCore (board-graph board) here α β (board-query (board .head) (board .part Index ++ more) (board .part Presence ++ more′) α β marks)
     unfolding written
-    written-query more =
-        subst (λ (i : List ℕ). IsCore (board-graph board) α β (board-query (board .head) (i ++ more) α β marks)) (sym written-index)
-        (index-then-query (board .head) (board-graph board .cleared) more α β marks few few′ long)
+    written-query more more′ =
+        let behind : Parts = parts [] [] [] [] more [] [] more′ in
+        let lent : Board = extend board behind in
+        let c = index-then-query (board .head) (listed-graph lent .cleared) (lent .part Presence) more α β marks few few′ (omega (arith, length-append (board .part Presence) more′, laid-written h es Presence)) long in
+        let d = core-start (board-graph lent) (present (lent .part Presence)) here α β _ (present-extend h (says h es) behind) c in
+        subst (λ (g : Graph). IsCore g here α β (board-query (board .head) (board .part Index ++ more) (lent .part Presence) α β marks)) (graph-extend h (says h es) behind)
+        (subst (λ (i : List ℕ). IsCore (board-graph lent) here α β (board-query (board .head) (i ++ more) (lent .part Presence) α β marks)) (sym (written-index behind)) d)
 
-    written-peel : AllValid h es → (more more′ : List ℕ) (allowed : ℕ) → ((x : ℕ) → x < mark-places h → getD marks x 0 ≡ 1) → IsPeeledCore (board-graph board) α β allowed (board-peel (board .head) (board .part Operators ++ more) (board .part Rides ++ more′) marks α β allowed)
+    written-peel : AllValid h es → (more more′ more″ : List ℕ) (allowed : ℕ) → ((x : ℕ) → x < mark-places h → getD marks x 0 ≡ 1) → IsPeeledCore (board-graph board) here α β allowed (board-peel (board .head) (board .part Operators ++ more) (board .part Rides ++ more′) (board .part Presence ++ more″) marks α β allowed)
     unfolding written
-    written-peel valid more more′ allowed ones =
-        let behind : Parts = parts more more′ [] [] [] in
+    written-peel valid more more′ more″ allowed ones =
+        let behind : Parts = parts more more′ [] [] [] [] [] more″ in
         let lent : Board = extend board behind in
         let none = peel-none lent marks (accepted-written h es few few′ valid behind .table) long ones in
-        subst (λ (g : Graph). IsPeeledCore g α β allowed (board-peel (board .head) (lent .part Operators) (lent .part Rides) marks α β allowed)) (graph-extend h (says h es) behind)
-        (peel-is-core (board .head) (lent .part Operators) (lent .part Rides) marks α β allowed none ones)
+        let c = peel-is-core (board .head) (lent .part Operators) (lent .part Rides) (lent .part Presence) marks α β allowed none ones in
+        subst (λ (g : Graph). IsPeeledCore g here α β allowed (board-peel (board .head) (lent .part Operators) (lent .part Rides) (lent .part Presence) marks α β allowed)) (graph-extend h (says h es) behind)
+        (peeled-start (board-graph lent) (present (lent .part Presence)) here α β allowed _ (present-extend h (says h es) behind) c)
 
 pub calls-then-index : CallsThenIndex
 calls-then-index b start calls e =
     subst (λ (x : Board). x .part Index ≡ index-of (board-graph x)) (sym (board-is-book b start calls e))
-    (written-index (b .head) (book (b .head) (b .part Operators) (b .part Rides) start calls))
+    (written-own-index (b .head) (book (b .head) (b .part Operators) (b .part Rides) start calls))
 
 pub calls-then-query : CallsThenQuery
-calls-then-query b start calls more α β marks e long =
+calls-then-query b start calls more more′ α β marks e long =
     let t = table b start e in
-    subst (λ (x : Board). IsCore (board-graph x) α β (board-query (x .head) (x .part Index ++ more) α β marks)) (sym (board-is-book b start calls e))
-    (written-query (b .head) (book (b .head) (b .part Operators) (b .part Rides) start calls) (t .few-operators) (t .few-rides) α β marks long more)
+    subst (λ (x : Board). IsCore (board-graph x) (present (x .part Presence)) α β (board-query (x .head) (x .part Index ++ more) (x .part Presence ++ more′) α β marks)) (sym (board-is-book b start calls e))
+    (written-query (b .head) (book (b .head) (b .part Operators) (b .part Rides) start calls) (t .few-operators) (t .few-rides) α β marks long more more′)
 
 pub calls-then-peel : CallsThenPeel
-calls-then-peel b start calls more more′ α β allowed marks e long ones =
+calls-then-peel b start calls more more′ more″ α β allowed marks e long ones =
     let t = table b start e in
-    subst (λ (x : Board). IsPeeledCore (board-graph x) α β allowed (board-peel (x .head) (x .part Operators ++ more) (x .part Rides ++ more′) marks α β allowed)) (sym (board-is-book b start calls e))
-    (written-peel (b .head) (book (b .head) (b .part Operators) (b .part Rides) start calls) (t .few-operators) (t .few-rides) α β marks long (valid-book b start calls e) more more′ allowed ones)
+    subst (λ (x : Board). IsPeeledCore (board-graph x) (present (x .part Presence)) α β allowed (board-peel (x .head) (x .part Operators ++ more) (x .part Rides ++ more′) (x .part Presence ++ more″) marks α β allowed)) (sym (board-is-book b start calls e))
+    (written-peel (b .head) (book (b .head) (b .part Operators) (b .part Rides) start calls) (t .few-operators) (t .few-rides) α β marks long (valid-book b start calls e) more more′ more″ allowed ones)
 
 pub demand-2 : Demand2
 demand-2 =
@@ -71,10 +95,12 @@ demand-2 =
       level-laws = level-laws;
       peel-laws = peel-laws;
       zero-is-no-limit = zero-is-no-limit;
+      presence-laws = presence-laws;
       query-is-core = query-is-core;
       index-then-query = index-then-query;
       build-then-query = build-then-query;
       preview-then-query = preview-then-query;
+      peel-is-largest = peel-is-largest;
       peel-is-core = peel-is-core;
       calls-then-index = calls-then-index;
       calls-then-query = calls-then-query;

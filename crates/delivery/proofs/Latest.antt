@@ -1,21 +1,22 @@
--- Which entry is the latest. Later is a strict order in which any two different entries compare, so that what the latest entry of a slot says
--- depends on the set of entries alone. Assumes nothing.
-use mathlib.Core.Path.{_≡_, refl, sym, ap, _∙_, subst}
+-- Which entry is the latest. Later is a strict order in which any two entries compare that differ in stamp, revision or giving, so that what the
+-- latest entry of a slot says depends on the set of entries alone. Assumes nothing.
+use mathlib.Core.Path.{_≡_, refl, sym, ap, ap₂, _∙_, subst}
 use mathlib.Core.Logic.{inl, inr}
 use mathlib.Core.Bool.{Bool, _&&_, _||_, not}
 use mathlib.Core.List.{List, [], _∷_, _++_, List·Memᴰ, List·Memᴰ·cases-cons, List·Memᴰ·not-nil, List·Memᴰ·append-cases, List·Memᴰ·eq-of-singleton, Memᴰ·append-left, Memᴰ·append-right}
 use mathlib.Core.Option.{Option, none, some}
-use Prim.Native.Nat.{ℕ, _≤_, _<_}
+use Prim.Native.Nat.{ℕ, _+_, _≤_, _<_}
 use native.Mathlib.Omega.{arith}
-use native.Mathlib.Decide.{decLt}
+use native.Mathlib.Decide.{decLt, decLe}
 use lib.Dec.{T, ltb, eqb, ltb→lt, lt→ltb, eqb→eq, T-not, not-T}
 use borrow.Author.Tests.{eq-eqb}
 use Rattle.model.specs.declared.Head.{Head}
 use Rattle.model.specs.declared.Message.{Message}
-use Rattle.model.specs.Contents.{Slot, same-slot, Entry, later, slot, entry, unheard}
+use Rattle.model.specs.Count.{bit}
+use Rattle.model.specs.Contents.{Slot, Pair, Operator, Ride, same-slot, Entry, gives, later, slot, giving, entry, unheard}
 use Rattle.model.specs.Refusal.{first-number, valid-cases}
-use Rattle.model.proofs.Count.{by-test, test-true, test-false, test-ext, and-left, and-right, and-both, or-left, or-right, or-cases}
-use Rattle.model.proofs.Refusal.{Valid, valid-none, none-valid}
+use Rattle.model.proofs.Count.{by-test, test-true, test-false, test-ext, bit-test, and-left, and-right, and-both, or-left, or-right, or-cases}
+use Rattle.model.proofs.Refusal.{by-kind, Valid, valid-none, none-valid}
 use Rattle.model.proofs.Contents.{slot-refl, slot-equal}
 use Rattle.delivery.specs.Book.{valid, later-one, latest, said}
 use Rattle.delivery.specs.Demand.{Latest, LatestLaws}
@@ -39,21 +40,21 @@ Later e f = T (later e f)
 module _ (e f : Entry) where
   -- at equal stamps and revisions: e takes away, and f gives
   abbrev tie : Bool
-  tie = eqb (e .revision) (f .revision) && (not (e .gives) && f .gives)
+  tie = eqb (e .revision) (f .revision) && (not (gives e) && gives f)
 
   -- at equal stamps
   abbrev revised : Bool
   revised = ltb (f .revision) (e .revision) || tie
 
-  later-cases {ℓ} : {C : Type ℓ} → Later e f → (f .stamp < e .stamp → C) → (e .stamp ≡ f .stamp → f .revision < e .revision → C) → (e .stamp ≡ f .stamp → e .revision ≡ f .revision → (T (e .gives) → ⊥) → T (f .gives) → C) → C
+  later-cases {ℓ} : {C : Type ℓ} → Later e f → (f .stamp < e .stamp → C) → (e .stamp ≡ f .stamp → f .revision < e .revision → C) → (e .stamp ≡ f .stamp → e .revision ≡ f .revision → (T (gives e) → ⊥) → T (gives f) → C) → C
   later-cases t c d g =
       or-cases (ltb (f .stamp) (e .stamp)) (eqb (e .stamp) (f .stamp) && revised) t
       (λ l. c (ltb→lt (f .stamp) (e .stamp) l))
       (λ k. let q = eqb→eq (e .stamp) (f .stamp) (and-left (eqb (e .stamp) (f .stamp)) revised k) in
       or-cases (ltb (f .revision) (e .revision)) tie (and-right (eqb (e .stamp) (f .stamp)) revised k)
       (λ l. d q (ltb→lt (f .revision) (e .revision) l))
-      (λ r. let w = and-right (eqb (e .revision) (f .revision)) (not (e .gives) && f .gives) r in
-      g q (eqb→eq (e .revision) (f .revision) (and-left (eqb (e .revision) (f .revision)) (not (e .gives) && f .gives) r)) (T-not (e .gives) (and-left (not (e .gives)) (f .gives) w)) (and-right (not (e .gives)) (f .gives) w)))
+      (λ r. let w = and-right (eqb (e .revision) (f .revision)) (not (gives e) && gives f) r in
+      g q (eqb→eq (e .revision) (f .revision) (and-left (eqb (e .revision) (f .revision)) (not (gives e) && gives f) r)) (T-not (gives e) (and-left (not (gives e)) (gives f) w)) (and-right (not (gives e)) (gives f) w)))
 
   pub later-stamp : f .stamp < e .stamp → Later e f
   later-stamp l = or-left (ltb (f .stamp) (e .stamp)) (eqb (e .stamp) (f .stamp) && revised) (lt→ltb (f .stamp) (e .stamp) l)
@@ -65,10 +66,10 @@ module _ (e f : Entry) where
   later-revision : e .stamp ≡ f .stamp → f .revision < e .revision → Later e f
   later-revision q l = later-same q (or-left (ltb (f .revision) (e .revision)) tie (lt→ltb (f .revision) (e .revision) l))
 
-  later-tie : e .stamp ≡ f .stamp → e .revision ≡ f .revision → (T (e .gives) → ⊥) → T (f .gives) → Later e f
+  later-tie : e .stamp ≡ f .stamp → e .revision ≡ f .revision → (T (gives e) → ⊥) → T (gives f) → Later e f
   later-tie q r n g =
       later-same q
-      (or-right (ltb (f .revision) (e .revision)) tie (and-both (eqb (e .revision) (f .revision)) (not (e .gives) && f .gives) (subst T (sym (eq-eqb (e .revision) (f .revision) r)) tt) (and-both (not (e .gives)) (f .gives) (not-T (e .gives) n) g)))
+      (or-right (ltb (f .revision) (e .revision)) tie (and-both (eqb (e .revision) (f .revision)) (not (gives e) && gives f) (subst T (sym (eq-eqb (e .revision) (f .revision) r)) tt) (and-both (not (gives e)) (gives f) (not-T (gives e) n) g)))
 
   -- where e is not later, its stamp is at most f's, and at equal stamps its revision
   not-later : (Later e f → ⊥) → (e .stamp ≤ f .stamp) × (e .stamp ≡ f .stamp → e .revision ≤ f .revision)
@@ -87,15 +88,39 @@ later-trans e f d t s =
     (λ q h. later-cases f d s (λ l. later-stamp e d (omega arith)) (λ q′ l. later-revision e d (q ∙ q′) (omega arith)) (λ q′ r n g. later-revision e d (q ∙ q′) (omega arith)))
     (λ q r n g. later-cases f d s (λ l. later-stamp e d (omega arith)) (λ q′ l. later-revision e d (q ∙ q′) (omega arith)) (λ q′ r′ n′ g′. absurd (n′ g)))
 
--- of two different entries one is later
-later-total : (e f : Entry) → (Later e f → ⊥) → (Later f e → ⊥) → e ≡ f
+-- entries of the same stamp and revision that both give, or both take away
+pub record Alike (e f : Entry) : Type 0 where
+  pub stamp : e .stamp ≡ f .stamp
+  pub revision : e .revision ≡ f .revision
+  pub giving : gives e ≡ gives f
+
+-- of two others one is later
+later-total : (e f : Entry) → (Later e f → ⊥) → (Later f e → ⊥) → Alike e f
 later-total e f n n′ =
     let low = not-later e f n in
     let high = not-later f e n′ in
     let stamp : e .stamp ≡ f .stamp = omega (arith, low .0, high .0) in
     let revision : e .revision ≡ f .revision = omega (arith, low .1 stamp, high .1 (sym stamp)) in
-    let gives : e .gives ≡ f .gives = test-ext (e .gives) (f .gives) (λ t. by-test (f .gives) (λ s. s) (λ s. absurd (n′ (later-tie f e (sym stamp) (sym revision) s t)))) (λ t. by-test (e .gives) (λ s. s) (λ s. absurd (n (later-tie e f stamp revision s t)))) in
-    λ j. record { stamp = stamp j; revision = revision j; gives = gives j }
+    record {
+      stamp = stamp;
+      revision = revision;
+      giving = test-ext (gives e) (gives f) (λ t. by-test (gives f) (λ s. s) (λ s. absurd (n′ (later-tie f e (sym stamp) (sym revision) s t)))) (λ t. by-test (gives e) (λ s. s) (λ s. absurd (n (later-tie e f stamp revision s t))));
+    }
+
+later-alike : (e d f : Entry) → Alike d f → Later e d → Later e f
+later-alike e d f a t =
+    let stamp = a .stamp in
+    let revision = a .revision in
+    let giving = a .giving in
+    subst T (λ j. ltb (stamp j) (e .stamp) || (eqb (e .stamp) (stamp j) && (ltb (revision j) (e .revision) || (eqb (e .revision) (revision j) && (not (gives e) && giving j))))) t
+
+-- of messages such entries are the same
+entry-alike : (e f : Message) → Alike (entry e) (entry f) → entry e ≡ entry f
+entry-alike e f a =
+    let stamp = a .stamp in
+    let revision = a .revision in
+    let word : bit (giving (e .kind)) ≡ bit (giving (f .kind)) = ap bit (sym (bit-test (giving (e .kind))) ∙ a .giving ∙ bit-test (giving (f .kind))) in
+    λ j. record { stamp = stamp j; revision = revision j; word = word j }
 
 -- e is not later than f
 abbrev pub AtMost : Entry → Entry → Type 0
@@ -105,7 +130,7 @@ at-most-trans : (e f d : Entry) → AtMost e f → AtMost f d → AtMost e d
 at-most-trans e f d n m t =
     by-test (later d f)
     (λ s. n (later-trans e d f t s))
-    (λ s. n (subst (Later e) (later-total d f s m) t))
+    (λ s. n (later-alike e d f (later-total d f s m) t))
 
 later-at-most : (e f : Entry) → Later e f → AtMost f e
 later-at-most e f t s = later-irrefl e (later-trans e f e t s)
@@ -180,18 +205,19 @@ abbrev pub Covered : List Message → List Message → Slot → Type 0
 Covered es fs t = (e : Message) → List·Memᴰ e es → slot e ≡ t → (f : Message) × List·Memᴰ f fs × (slot f ≡ t) × AtMost (entry e) (entry f)
 
 module _ (es fs : List Message) (t : Slot) (there : Covered es fs t) (back : Covered fs es t) where
-  same-is : (o o′ : Option Message) → Is es t o → Is fs t o′ → said o ≡ said o′
+  same-is : (o o′ : Option Message) → Is es t o → Is fs t o′ → said t o ≡ said t o′
   same-is none none i j = refl
   same-is none (some f) i j = let w = back f (j .member) (j .about) in absurd (i (w .0) (w .1) (w .2))
   same-is (some e) none i j = let w = there e (i .member) (i .about) in absurd (j (w .0) (w .1) (w .2))
   same-is (some e) (some f) i j =
       let w = there e (i .member) (i .about) in
       let w′ = back f (j .member) (j .about) in
-      later-total (entry e) (entry f)
+      entry-alike e f
+      (later-total (entry e) (entry f)
       (at-most-trans (entry e) (entry (w .0)) (entry f) (w .3) (j .last (w .0) (w .1) (w .2)))
-      (at-most-trans (entry f) (entry (w′ .0)) (entry e) (w′ .3) (i .last (w′ .0) (w′ .1) (w′ .2)))
+      (at-most-trans (entry f) (entry (w′ .0)) (entry e) (w′ .3) (i .last (w′ .0) (w′ .1) (w′ .2))))
 
-  pub latest-same : said (latest es t) ≡ said (latest fs t)
+  pub latest-same : said t (latest es t) ≡ said t (latest fs t)
   latest-same = same-is (latest es t) (latest fs t) (latest-is es t) (latest-is fs t)
 
 -- each entry of es for the slot is one of fs
@@ -204,14 +230,20 @@ covered-members es fs t f e i a = (e, f e i a, a, later-irrefl (entry e))
 abbrev pub AllValid : Head → List Message → Type 0
 AllValid h es = (e : Message) → List·Memᴰ e es → Valid h e
 
--- a valid message's entry says its kind
-entry-kind : (h : Head) (e f : Message) → Valid h e → Valid h f → entry e ≡ entry f → e .kind ≡ f .kind
-entry-kind h e f v w q =
-    let gives : eqb (e .kind) 1 ≡ eqb (f .kind) 1 = ap (λ (x : Entry). x .gives) q in
-    by-test (eqb (e .kind) 1)
-    (λ t. eqb→eq (e .kind) 1 t ∙ sym (eqb→eq (f .kind) 1 (subst T gives t)))
-    (λ n. let two : (d : Message) → Valid h d → (T (eqb (d .kind) 1) → ⊥) → d .kind ≡ 2 = λ d r k. elim (decLt (d .kind) 2) [ yes l ↦ absurd (k (subst (λ (x : ℕ). T (eqb x 1)) (let z : 1 ≡ d .kind = omega (arith, r .kind-low) in z) tt)) | no l ↦ omega (arith, r .kind-high) ] in
-    two e v n ∙ sym (two f w (λ t. n (subst T (sym gives) t))))
+-- the kind that gives for a slot
+abbrev giving-kind : Slot → ℕ
+giving-kind (Pair u v) = 1
+giving-kind (Operator u) = 3
+giving-kind (Ride v) = 5
+
+-- a valid message's slot and whether it gives say its kind
+kind-of : (h : Head) (m : Message) → Valid h m → m .kind ≡ giving-kind (slot m) + bit (not (giving (m .kind)))
+kind-of h m v =
+    let is : (k n : ℕ) → k ≡ n + bit (not (giving k)) → m .kind ≡ k → m .kind ≡ n + bit (not (giving (m .kind))) = λ k n q e. subst (λ (x : ℕ). x ≡ n + bit (not (giving x))) (sym e) q in
+    by-kind m (λ t. m .kind ≡ giving-kind t + bit (not (giving (m .kind))))
+    (λ k. elim (decLe (m .kind) 1) [ yes l ↦ is 1 1 refl (omega (arith, v .kind-low)) | no l ↦ is 2 1 refl (omega arith) ])
+    (λ k k′. elim (decLe (m .kind) 3) [ yes l ↦ is 3 3 refl (omega arith) | no l ↦ is 4 3 refl (omega arith) ])
+    (λ k. elim (decLe (m .kind) 5) [ yes l ↦ is 5 5 refl (omega arith) | no l ↦ is 6 5 refl (omega (arith, v .kind-high)) ])
 
 pub latest-laws : LatestLaws
 latest-laws =
@@ -220,7 +252,8 @@ latest-laws =
       missing = λ es t q. subst (Is es t) q (latest-is es t);
       only = λ h es t e f valid i j.
           let q = later-total (entry e) (entry f) (j .last e (i .member) (i .about)) (i .last f (j .member) (j .about)) in
-          (entry-kind h e f (valid-test h e (valid e (i .member))) (valid-test h f (valid f (j .member))) q, ap (λ (x : Entry). x .stamp) q, ap (λ (x : Entry). x .revision) q);
+          let g : giving (e .kind) ≡ giving (f .kind) = sym (bit-test (giving (e .kind))) ∙ q .giving ∙ bit-test (giving (f .kind)) in
+          (kind-of h e (valid-test h e (valid e (i .member))) ∙ ap₂ (λ (x : Slot) (b : Bool). giving-kind x + bit (not b)) (i .about ∙ sym (j .about)) g ∙ sym (kind-of h f (valid-test h f (valid f (j .member)))), q .stamp, q .revision);
     }
 
 -- ---- one entry more
@@ -228,9 +261,14 @@ latest-laws =
 pub valid-append : (h : Head) (es fs : List Message) → AllValid h es → AllValid h fs → AllValid h (es ++ fs)
 valid-append h es fs a b e m = elim (List·Memᴰ·append-cases es m) [ inl i ↦ a e i | inr j ↦ b e j ]
 
+unheard-stamp : (t : Slot) → unheard t .stamp ≡ 0
+unheard-stamp (Pair u v) = refl
+unheard-stamp (Operator u) = refl
+unheard-stamp (Ride v) = refl
+
 -- a valid message is later than nothing
-pub later-unheard : (h : Head) (m : Message) → Valid h m → Later (entry m) unheard
-later-unheard h m v = later-stamp (entry m) unheard (v .stamp)
+pub later-unheard : (h : Head) (m : Message) (t : Slot) → Valid h m → Later (entry m) (unheard t)
+later-unheard h m t v = later-stamp (entry m) (unheard t) (omega (arith, unheard-stamp t, v .stamp))
 
 module _ (h : Head) (m : Message) (m-valid : Valid h m) (es : List Message) where
   abbrev more : List Message
@@ -241,38 +279,38 @@ module _ (h : Head) (m : Message) (m-valid : Valid h m) (es : List Message) wher
 
   -- m is later than what the book says of its slot
   abbrev pub newer : Bool
-  newer = later (entry m) (said (latest es here))
+  newer = later (entry m) (said here (latest es here))
 
   single-is : Is (m ∷ []) here (some m)
   single-is = later-one-is m [] here none refl (λ e i a. List·Memᴰ·not-nil i)
 
   -- where m is newer, it is the latest; where not, or for another slot, the book says what it said before
-  outranked : (o : Option Message) → Is es here o → Later (entry m) (said o) → (e : Message) → List·Memᴰ e es → slot e ≡ here → AtMost (entry e) (entry m)
+  outranked : (o : Option Message) → Is es here o → Later (entry m) (said here o) → (e : Message) → List·Memᴰ e es → slot e ≡ here → AtMost (entry e) (entry m)
   outranked none is t e i a = absurd (is e i a)
   outranked (some d) is t e i a = at-most-trans (entry e) (entry d) (entry m) (is .last e i a) (later-at-most (entry m) (entry d) t)
 
-  outranks : (o : Option Message) → Is es here o → AtMost (entry m) (said o) → (f : Message) × List·Memᴰ f es × (slot f ≡ here) × AtMost (entry m) (entry f)
-  outranks none is n = absurd (n (later-unheard h m m-valid))
+  outranks : (o : Option Message) → Is es here o → AtMost (entry m) (said here o) → (f : Message) × List·Memᴰ f es × (slot f ≡ here) × AtMost (entry m) (entry f)
+  outranks none is n = absurd (n (later-unheard h m here m-valid))
   outranks (some d) is n = (d, is .member, is .about, n)
 
   stays : (t : Slot) → Covered es more t
   stays t = covered-members es more t (λ e i a. Memᴰ·append-left (m ∷ []) i)
 
-  pub entry-newer : T newer → said (latest more here) ≡ entry m
+  pub entry-newer : T newer → said here (latest more here) ≡ entry m
   entry-newer t =
       same-is more (m ∷ []) here
       (λ e i a. (m, List·Memᴰ.List·Memᴰ·head refl, refl, elim (List·Memᴰ·append-cases es i) [ inl j ↦ outranked (latest es here) (latest-is es here) t e j a | inr j ↦ subst (λ (x : Message). AtMost (entry x) (entry m)) (sym (List·Memᴰ·eq-of-singleton j)) (later-irrefl (entry m)) ]))
       (covered-members (m ∷ []) more here (λ e i a. Memᴰ·append-right es i))
       (latest more here) (some m) (latest-is more here) single-is
 
-  pub entry-older : (T newer → ⊥) → said (latest more here) ≡ said (latest es here)
+  pub entry-older : (T newer → ⊥) → said here (latest more here) ≡ said here (latest es here)
   entry-older n =
       let w = outranks (latest es here) (latest-is es here) n in
       latest-same more es here
       (λ e i a. elim (List·Memᴰ·append-cases es i) [ inl j ↦ (e, j, a, later-irrefl (entry e)) | inr j ↦ (w .0, w .1, w .2, subst (λ (x : Message). AtMost (entry x) (entry (w .0))) (sym (List·Memᴰ·eq-of-singleton j)) (w .3)) ])
       (stays here)
 
-  pub entry-other : (t : Slot) → (t ≡ here → ⊥) → said (latest more t) ≡ said (latest es t)
+  pub entry-other : (t : Slot) → (t ≡ here → ⊥) → said t (latest more t) ≡ said t (latest es t)
   entry-other t n =
       latest-same more es t
       (covered-members more es t (λ e i a. elim (List·Memᴰ·append-cases es i) [ inl j ↦ j | inr j ↦ absurd (n (sym a ∙ ap slot (List·Memᴰ·eq-of-singleton j))) ]))

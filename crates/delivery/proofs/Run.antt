@@ -11,15 +11,15 @@ use lib.ListN.{length, set}
 use Rattle.model.specs.declared.Head.{Head}
 use Rattle.model.specs.declared.Message.{Message}
 use Rattle.model.specs.Layout.{Parts, Board, onto}
-use Rattle.model.specs.Contents.{Slot, Entry, Contents, later, slot, entry, put, contents}
+use Rattle.model.specs.Contents.{Slot, Pair, Operator, Ride, Entry, gives, Contents, later, slot, entry, unheard, put, contents}
 use Rattle.model.specs.Refusal.{refused-3, refused-10, first-number, board-short, message-refusal, list-refusal}
 use Rattle.model.specs.Message.{MessageOutcome, board-after, board-message, ListOutcome, in-order}
 use Rattle.model.proofs.Count.{by-test, test-true, test-false, or-left, or-right, or-cases}
 use Rattle.model.proofs.Chain.{first-nil, first-here, first-skip, enough}
 use Rattle.model.proofs.Parts.{board-long}
-use Rattle.model.proofs.Refusal.{Accepted, Valid, valid-sizes, short-three, taken-none, message-valid, list-accepted}
-use Rattle.model.proofs.Contents.{by-slot, put-same, put-other, Within, length-words, places-of, extend, contents-of, accepted-of, board-of-same, board-of-sizes, onto-extend}
-use Rattle.model.proofs.Taken.{valid-within, message-taken, message-refused, list-taken, list-refused}
+use Rattle.model.proofs.Refusal.{Within, Accepted, Valid, valid-sizes, short-three, taken-none, message-valid, list-accepted}
+use Rattle.model.proofs.Contents.{by-slot, put-same, put-other, Plain, plain-bit, plain-entry, length-words, places-of, extend, contents-of, accepted-of, board-of-same, board-of-sizes, onto-extend}
+use Rattle.model.proofs.Taken.{message-taken, message-refused, list-taken, list-refused}
 use Rattle.delivery.specs.Calls.{Lending, Call, message, messages, sent, lend, take-back, after, run, returned, case}
 use Rattle.delivery.specs.Book.{parts-short, too-short, valid, valid-ones, entered, entries, latest, said, written}
 use Rattle.delivery.proofs.Latest.{valid-test, test-valid, Is, latest-is, AllValid, valid-append, newer, entry-newer, entry-older, entry-other}
@@ -54,24 +54,31 @@ all-valid h (m ∷ ms) e i =
 module _ (h : Head) (es : List Message) where
   -- what the book says
   abbrev pub says : Contents
-  says t = said (latest es t)
+  says t = said t (latest es t)
 
   pub laid-written : Laid h (written h es)
   unfolding written
   laid-written = length-words h says
 
-  said-stamped : AllValid h es → (t : Slot) (o : Option Message) → Is es t o → T (said o .gives) → 1 ≤ said o .stamp
-  said-stamped a t none is g = absurd g
-  said-stamped a t (some e) is g = a e (is .member) .stamp
+  said-stamped : AllValid h es → (u v : ℕ) (o : Option Message) → Is es (Pair u v) o → T (gives (said (Pair u v) o)) → 1 ≤ said (Pair u v) o .stamp
+  said-stamped a u v none is g = absurd g
+  said-stamped a u v (some e) is g = a e (is .member) .stamp
+
+  -- it says a pair's word by 1 or 0
+  pub said-plain : (t : Slot) (o : Option Message) → Plain t (said t o)
+  said-plain (Pair u v) none = plain-bit (Pair u v) (unheard (Pair u v)) false refl
+  said-plain (Operator u) none = tt
+  said-plain (Ride v) none = tt
+  said-plain t (some e) = plain-entry t e
 
   -- 1 to 6 do not apply to them, as they are lent
   pub accepted-written : h .operators ≤ 200 → h .rides ≤ 60 → AllValid h es → (more : Parts) → Accepted (extend (written h es) more)
   unfolding written
-  accepted-written few few′ a more = accepted-of h says more few few′ (λ t w. said-stamped a t (latest es t) (latest-is es t))
+  accepted-written few few′ a more = accepted-of h says more few few′ (λ u v p q. said-stamped a u v (latest es (Pair u v)) (latest-is es (Pair u v)))
 
-  pub written-same : (fs : List Message) → ((t : Slot) → Within h t → said (latest es t) ≡ said (latest fs t)) → written h es ≡ written h fs
+  pub written-same : (fs : List Message) → ((t : Slot) → Within h t → said t (latest es t) ≡ said t (latest fs t)) → written h es ≡ written h fs
   unfolding written
-  written-same fs e = board-of-same h says (λ t. said (latest fs t)) e
+  written-same fs e = board-of-same h says (λ t. said t (latest fs t)) e
 
 -- ---- one message
 
@@ -90,14 +97,14 @@ module _ (h : Head) (few : h .operators ≤ 200) (few′ : h .rides ≤ 60) (mor
       valid-board = valid-sizes h (board .head) m refl refl v
 
       -- the board says of each slot what the book says
-      board-says : (t : Slot) → Within h t → contents board t ≡ said (latest es t)
+      board-says : (t : Slot) → Within h t → contents board t ≡ said t (latest es t)
       unfolding written
-      board-says = contents-of h (says h es) more
+      board-says t w = contents-of h (says h es) more t w (said-plain h es t (latest es t))
 
       -- 10, by the book
       ten : refused-10 board m ≡ not (newer h m v es)
       unfolding refused-10
-      ten = ap (λ (e : Entry). not (later (entry m) e)) (board-says (slot m) (valid-within h m v))
+      ten = ap (λ (e : Entry). not (later (entry m) e)) (board-says (slot m) (v .within))
 
       decided : message-refusal board m ≡ first-number ((10, refused-10 board m) ∷ [])
       decided = message-valid board m (accepted-written h es few few′ es-valid more) valid-board
@@ -105,10 +112,10 @@ module _ (h : Head) (few : h .operators ≤ 200) (few′ : h .rides ≤ 60) (mor
       abbrev fs : List Message
       fs = es ++ (m ∷ [])
 
-      next-says : T (newer h m v es) → (t : Slot) → Within h t → put (contents board) (slot m) (entry m) t ≡ said (latest fs t)
+      next-says : T (newer h m v es) → (t : Slot) → Within h t → put (contents board) (slot m) (entry m) t ≡ said t (latest fs t)
       next-says n t w =
           by-slot t (slot m)
-          (λ q. subst (λ (x : Slot). put (contents board) (slot m) (entry m) x ≡ said (latest fs x)) (sym q) (put-same (contents board) (slot m) (entry m) ∙ sym (entry-newer h m v es n)))
+          (λ q. subst (λ (x : Slot). put (contents board) (slot m) (entry m) x ≡ said x (latest fs x)) (sym q) (put-same (contents board) (slot m) (entry m) ∙ sym (entry-newer h m v es n)))
           (λ k. put-other (contents board) (slot m) (entry m) t k ∙ board-says t w ∙ sym (entry-other h m v es t k))
 
       newer-taken : T (newer h m v es) → board-message board m .board ≡ lent-board fs
@@ -124,7 +131,7 @@ module _ (h : Head) (few : h .operators ≤ 200) (few′ : h .rides ≤ 60) (mor
           ap (λ (b : Board). extend b more)
           (written-same h es fs
           (λ t _. by-slot t (slot m)
-          (λ q. subst (λ (x : Slot). said (latest es x) ≡ said (latest fs x)) (sym q) (sym (entry-older h m v es n)))
+          (λ q. subst (λ (x : Slot). said x (latest es x) ≡ said x (latest fs x)) (sym q) (sym (entry-older h m v es n)))
           (λ k. sym (entry-other h m v es t k))))
 
     -- a message that is taken is valid

@@ -15,6 +15,7 @@ use Rattle.model.specs.Contents.{Slot, later, slot, entry}
 use Rattle.model.specs.Refusal.{build-refusal, message-refusal, list-refusal}
 use Rattle.model.specs.Message.{board-message, board-preview, board-messages}
 use Rattle.model.specs.Demand.{OneMove}
+use Rattle.model.specs.Samples.{two-on-one, ride-gone}
 use Rattle.delivery.specs.Calls.{Call, run, built-board, returned, case, delivered}
 use Rattle.delivery.specs.Book.{too-short, valid, book, latest, written}
 
@@ -82,9 +83,10 @@ pub record OneMessage : Type 0 where
       OneMove (board-graph (board-message b m .board)) (board-graph b) (m .operator)
   pub operator-off : (b : Board) (m : Message) → message-refusal b m ≡ 0 → m .kind ≡ 4 →
       OneMove (board-graph (board-message b m .board)) (board-graph b) (m .operator)
-  -- for a ride levels may move further: on some board its going takes two operators from level 2 to level 0 in row 1
-  pub ride-out : (b : Board) × (m : Message) × (message-refusal b m ≡ 0) × (m .kind ≡ 6) × (b .head .operators ≡ 2) ×
-      (take 2 (row (board-graph b) 1) ≡ 2 ∷ 2 ∷ []) × (take 2 (row (board-graph (board-message b m .board)) 1) ≡ 0 ∷ 0 ∷ [])
+  -- for a ride levels may move further: two operators are cleared for one ride, and its going takes both from level 2 to level 0 in row 1
+  pub ride-out : message-refusal two-on-one ride-gone ≡ 0
+  pub ride-before : row (board-graph two-on-one) 1 ≡ 2 ∷ 2 ∷ 2 ∷ []
+  pub ride-after : row (board-graph (board-message two-on-one ride-gone .board)) 1 ≡ 0 ∷ 0 ∷ 0 ∷ []
 
 -- the board after messages sent one after another by message calls
 unfoldable pub board-by-calls : Board → List Message → Board

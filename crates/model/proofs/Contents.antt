@@ -14,7 +14,7 @@ use lib.Seq.{take-at, drop-at}
 use Rattle.model.specs.declared.Head.{Head}
 use Rattle.model.specs.declared.Message.{Message}
 use Rattle.model.specs.Count.{bit, values, rows}
-use Rattle.model.specs.Graph.{nodes, level, index-of}
+use Rattle.model.specs.Graph.{Graph, nodes, present, level, index-of}
 use Rattle.model.specs.Layout.{Part, Operators, Rides, Stamps, Revisions, Index, PresenceStamps, PresenceRevisions, Presence, Parts, Board, pair-places, mark-places, places, over, onto, exact, sized, listed-graph, board-graph}
 use Rattle.model.specs.Contents.{Slot, Pair, Operator, Ride, same-slot, Entry, gives, giving, entry, Contents, put, given, counted, contents, pair-place, ride-place, entry-at, node-slot, padded, words, board-of}
 use Rattle.model.proofs.Count.{by-test, test-true, test-false, bit-test, and-left, and-right, and-both, length-values, getD-values, values-ext, length-rows, getD-rows, rows-ext}
@@ -44,6 +44,12 @@ slot-equal (Ride v) (Ride d) h = ap Ride (eqb→eq v d h)
 
 pub pair-equal : (u v a d : ℕ) → Pair u v ≡ Pair a d → (u ≡ a) × (v ≡ d)
 pair-equal u v a d q = ((cc), (cc))
+
+pub pair-or-operator : (u v a : ℕ) → Pair u v ≡ Operator a → ⊥
+pair-or-operator u v a q = subst T (ap (same-slot (Pair u v)) q) (slot-refl (Pair u v))
+
+pub pair-or-ride : (u v d : ℕ) → Pair u v ≡ Ride d → ⊥
+pair-or-ride u v d q = subst T (ap (same-slot (Pair u v)) q) (slot-refl (Pair u v))
 
 -- a slot is the given one, or another
 pub by-slot {ℓ} : {C : Type ℓ} (x t : Slot) → (x ≡ t → C) → ((x ≡ t → ⊥) → C) → C
@@ -198,6 +204,28 @@ module _ (h : Head) (s : Contents) (more : Parts) where
       let in-service = ap gives (ride-words v b) in
       let cleared = listed-words u v a b in
       λ j. cleared j && (on j && in-service j)
+
+  -- further words change no presence, and no pair that counts
+  pub present-extend : (x : ℕ) → x < mark-places h → present (board .part Presence) x ≡ present (words h s Presence) x
+  present-extend x l = ap (λ (k : ℕ). eqb k 1) (List·getD-append (words h s Presence) (more Presence) 0 x (omega (arith, length-words h s Presence)))
+
+  -- whether a pair's operator and ride are both present
+  abbrev both : List ℕ → ℕ → ℕ → Bool
+  both presence u v = present presence u && present presence (ride-place h v)
+
+  pub graph-extend : board-graph board ≡ board-graph (board-of h s)
+  graph-extend = λ j. record { operators = h .operators; rides = h .rides; cleared = λ u v. same u v j }
+    where
+      same : (u v : ℕ) → board-graph board .cleared u v ≡ board-graph (board-of h s) .cleared u v
+      same u v =
+          let listed : Bool = listed-graph board .cleared u v in
+          let e : listed ≡ listed-graph (board-of h s) .cleared u v = ap (λ (g : Graph). g .cleared u v) listed-extend in
+          by-test listed
+          (λ t. let w = pairs-in-range (sized h (given s)) (board .head .pairs) (board .part Operators) (board .part Rides) pairs-of-words u v t in
+          let on = present-extend u (omega (arith, w .0)) in
+          let in-service = present-extend (ride-place h v) (omega (arith, w .1)) in
+          λ j. e j && (on j && in-service j))
+          (λ n. ap (λ (z : Bool). z && both (board .part Presence) u v) (test-false listed n) ∙ sym (ap (λ (z : Bool). z && both (words h s Presence) u v) (sym e ∙ test-false listed n)))
 
   -- the index is that of the pairs listed that count
   pub index-words : words h s Index ≡ index-of (board-graph board)

@@ -1,5 +1,6 @@
--- A table of the listed pairs, one pair more; the two tables of a pair table; the graph that two tables hold. Assumes nothing.
+-- A table of those listed pairs that pass a test, one pair more; the two tables of a pair table; the graph that two tables hold. Assumes nothing.
 use mathlib.Core.Path.{_≡_, refl, sym, ap, _∙_}
+use mathlib.Core.Bool.{Bool, _&&_}
 use mathlib.Core.List.{List}
 use Prim.Native.Nat.{ℕ, _+_, _*_, _≤_, _<_}
 use native.Mathlib.Omega.{arith}
@@ -8,15 +9,15 @@ use lib.Dec.{eqb}
 use lib.ListN.{length, getD, set, replicate, length-set}
 use Rattle.model.specs.declared.Head.{Head}
 use Rattle.model.specs.Count.{bit}
-use Rattle.model.specs.Graph.{Graph}
-use Rattle.model.specs.Layout.{listed, graph}
+use Rattle.model.specs.Graph.{Graph, present}
+use Rattle.model.specs.Layout.{listed, counting-graph}
 use Rattle.model.proofs.Count.{bit-test, test-ext}
 use Rattle.model.proofs.Pairs.{listed-place, place-listed}
 use Rattle.model.proofs.Store.{getD-zeros}
 use Rattle.pairs.specs.Accepted.{AcceptedPairs}
 use Rattle.pairs.proofs.Order.{accepted-range}
 use Rattle.tables.specs.Table.{Table, Tables, ZeroTables, joined, table-graph}
-use Rattle.tables.proofs.Place.{table-more, listed-none}
+use Rattle.tables.proofs.Place.{table-stored, listed-none}
 
 -- two new tables are tables of zeros
 pub zero-tables : ZeroTables (replicate 12000 0) (replicate 12000 0)
@@ -29,32 +30,41 @@ listed-swap pairs operators rides u v =
     (λ t. let w = listed-place pairs rides operators v u t in place-listed pairs operators rides u v (w .0) (w .1) (w .3) (w .2))
     (λ t. let w = listed-place pairs operators rides u v t in place-listed pairs rides operators v u (w .0) (w .1) (w .3) (w .2))
 
--- a table of zeros holds the first 0 pairs
-pub table-none : (rows columns : List ℕ) (height width : ℕ) (t : List ℕ) → height * width ≤ length t → ((k : ℕ) → getD t k 0 ≡ 0) → Table (listed 0 rows columns) height width width t
-table-none rows columns height width t size zeros =
-    record {
-      wide = le-refl width;
-      size = size;
-      bits = λ i j h l. zeros (i * width + j) ∙ sym (ap bit (listed-none rows columns i j));
-    }
+-- tables of those pairs of the first k that pass a test
+module _ (test : ℕ → ℕ → Bool) (rows columns : List ℕ) where
+  abbrev pub passed : ℕ → ℕ → ℕ → Bool
+  passed k i j = listed k rows columns i j && test i j
 
--- with a 1 at the next pair's place it holds one pair more
-pub table-next : (rows columns : List ℕ) (height width k : ℕ) (t : List ℕ) → Table (listed k rows columns) height width width t → getD rows k 0 < height → getD columns k 0 < width → Table (listed (k + 1) rows columns) height width width (set t (getD rows k 0 * width + getD columns k 0) 1)
-table-next rows columns height width k t table r c =
-    record {
-      wide = table .wide;
-      size = simp length-set (table .size);
-      bits = table-more bit rows columns height width k t (table .size) r c (table .bits);
-    }
+  -- a table of zeros holds the first 0 pairs
+  pub table-none : (height width : ℕ) (t : List ℕ) → height * width ≤ length t → ((k : ℕ) → getD t k 0 ≡ 0) → Table (passed 0) height width width t
+  table-none height width t size zeros =
+      record {
+        wide = le-refl width;
+        size = size;
+        bits = λ i j h l. zeros (i * width + j) ∙ sym (ap (λ (b : Bool). bit (b && test i j)) (listed-none rows columns i j));
+      }
+
+  -- with the bit of its test at the next pair's place it holds one pair more
+  pub table-next : (height width k : ℕ) (t : List ℕ) → Table (passed k) height width width t → getD rows k 0 < height → getD columns k 0 < width → Table (passed (k + 1)) height width width (set t (getD rows k 0 * width + getD columns k 0) (bit (test (getD rows k 0) (getD columns k 0))))
+  table-next height width k t table r c =
+      record {
+        wide = table .wide;
+        size = simp length-set (table .size);
+        bits = table-stored (λ i j b. bit (b && test i j)) rows columns height width k t (table .size) r c (table .bits);
+      }
 
 -- the pairs of an accepted pair table have places in both tables
 pub pair-small : (h : Head) (operators rides : List ℕ) → AcceptedPairs h operators rides → (k : ℕ) → k < h .pairs → (getD operators k 0 < 200) × (getD rides k 0 < 60)
 pair-small h operators rides accepted k l =
     let r = accepted-range h operators rides accepted k l in (omega (arith, r .0, accepted .few-operators), omega (arith, r .1, accepted .few-rides))
 
--- tables of all listed pairs hold the clearances of the pair table
-pub tables-filled : (h : Head) (operators rides : List ℕ) → AcceptedPairs h operators rides → (t t′ : List ℕ) → Table (listed (h .pairs) operators rides) 200 60 60 t → Table (listed (h .pairs) rides operators) 60 200 200 t′ → Tables (graph h operators rides) t t′
-tables-filled h operators rides accepted t t′ table table′ =
+-- whether operator u and ride v of so many operators are both present
+abbrev pub both : List ℕ → ℕ → ℕ → ℕ → Bool
+both presence n u v = present presence u && present presence (n + v)
+
+-- tables of all listed pairs that count hold the counting pairs of the pair table
+pub tables-filled : (h : Head) (operators rides presence : List ℕ) → AcceptedPairs h operators rides → (t t′ : List ℕ) → Table (passed (both presence (h .operators)) operators rides (h .pairs)) 200 60 60 t → Table (passed (λ v u. both presence (h .operators) u v) rides operators (h .pairs)) 60 200 200 t′ → Tables (counting-graph h operators rides presence) t t′
+tables-filled h operators rides presence accepted t t′ table table′ =
     record {
       by-operator = record {
         wide = accepted .few-rides;
@@ -64,7 +74,7 @@ tables-filled h operators rides accepted t t′ table table′ =
       by-ride = record {
         wide = accepted .few-operators;
         size = omega (arith, accepted .few-rides, table′ .size);
-        bits = λ v u l k. table′ .bits v u (omega (arith, accepted .few-rides)) (omega (arith, accepted .few-operators)) ∙ ap bit (listed-swap (h .pairs) operators rides u v);
+        bits = λ v u l k. table′ .bits v u (omega (arith, accepted .few-rides)) (omega (arith, accepted .few-operators)) ∙ ap (λ (b : Bool). bit (b && both presence (h .operators) u v)) (listed-swap (h .pairs) operators rides u v);
       };
     }
 

@@ -1,4 +1,4 @@
--- Places of a dense table: two places are the same only where row and column are, and storing 1 at one adds its pair. Assumes nothing.
+-- Places of a dense table: two places are the same only where row and column are, and storing at one adds its pair. Assumes nothing.
 use mathlib.Core.Path.{_≡_, refl, sym, ap, ap₂, _∙_, subst}
 use mathlib.Core.Bool.{Bool, true, false}
 use mathlib.Core.List.{List}
@@ -44,17 +44,30 @@ module _ (rows columns : List ℕ) (k i j : ℕ) where
       (λ t. let w = some-witness (pair-at rows columns i j) (k + 1) t in elim (decLt (w .0) k) [ yes l ↦ some-holds (pair-at rows columns i j) k (w .0) l (w .2) | no l ↦ absurd (let e : w .0 ≡ k = omega (arith, w .1) in let p = subst (λ (z : ℕ). T (pair-at rows columns i j z)) e (w .2) in n (eqb→eq (getD rows k 0) i (and-left (eqb (getD rows k 0) i) (eqb (getD columns k 0) j) p)) (eqb→eq (getD columns k 0) j (and-right (eqb (getD rows k 0) i) (eqb (getD columns k 0) j) p))) ])
       (λ t. let w = some-witness (pair-at rows columns i j) k t in some-holds (pair-at rows columns i j) (k + 1) (w .0) (omega (arith, w .1)) (w .2))
 
--- a table of the first k pairs, with one value for listed pairs and one for the others: with the next pair's value stored it is the table of the first k + 1
-module _ (val : Bool → ℕ) (rows columns : List ℕ) (height width k : ℕ) (table : List ℕ) (size : height * width ≤ length table) (r : getD rows k 0 < height) (c : getD columns k 0 < width) (upto : (i j : ℕ) → i < height → j < width → getD table (i * width + j) 0 ≡ val (listed k rows columns i j)) where
-  pub table-more : (i j : ℕ) → i < height → j < width → getD (set table (getD rows k 0 * width + getD columns k 0) (val true)) (i * width + j) 0 ≡ val (listed (k + 1) rows columns i j)
-  table-more i j h l =
-      elim (ℕ-discrete (i * width + j) (getD rows k 0 * width + getD columns k 0)) [
+-- a table of the first k pairs, with a value for a listed pair and one for another: with the next pair's value stored it is the table of the first k + 1
+module _ (val : ℕ → ℕ → Bool → ℕ) (rows columns : List ℕ) (height width k : ℕ) (table : List ℕ) (size : height * width ≤ length table) (r : getD rows k 0 < height) (c : getD columns k 0 < width) (upto : (i j : ℕ) → i < height → j < width → getD table (i * width + j) 0 ≡ val i j (listed k rows columns i j)) where
+  abbrev u : ℕ
+  u = getD rows k 0
+
+  abbrev v : ℕ
+  v = getD columns k 0
+
+  pub table-stored : (i j : ℕ) → i < height → j < width → getD (set table (u * width + v) (val u v true)) (i * width + j) 0 ≡ val i j (listed (k + 1) rows columns i j)
+  table-stored i j h l =
+      elim (ℕ-discrete (i * width + j) (u * width + v)) [
         | yes e ↦
-            rw (e, getD-set-same table (getD rows k 0 * width + getD columns k 0) (val true) 0 (place-lt height width (getD rows k 0) (getD columns k 0) r c (length table) size)) (sym (ap val (listed-here rows columns k i j (sym (place-row width i j (getD rows k 0) (getD columns k 0) l c e)) (sym (place-column width i j (getD rows k 0) (getD columns k 0) l c e)))))
+            (let p : u ≡ i = sym (place-row width i j u v l c e) in
+            let q : v ≡ j = sym (place-column width i j u v l c e) in
+            rw (e, getD-set-same table (u * width + v) (val u v true) 0 (place-lt height width u v r c (length table) size))
+            (ap₂ (λ (a b : ℕ). val a b true) p q ∙ sym (ap (val i j) (listed-here rows columns k i j p q))))
         | no n ↦
-            getD-set-other table (getD rows k 0 * width + getD columns k 0) (i * width + j) (val true) 0 n ∙ upto i j h l ∙
-            sym (ap val (listed-before rows columns k i j (λ e f. n (sym (ap₂ (λ (a b : ℕ). a * width + b) e f)))))
+            getD-set-other table (u * width + v) (i * width + j) (val u v true) 0 n ∙ upto i j h l ∙
+            sym (ap (val i j) (listed-before rows columns k i j (λ e f. n (sym (ap₂ (λ (a b : ℕ). a * width + b) e f)))))
       ]
+
+-- the same with one value for all listed pairs
+pub table-more : (val : Bool → ℕ) (rows columns : List ℕ) (height width k : ℕ) (table : List ℕ) → height * width ≤ length table → getD rows k 0 < height → getD columns k 0 < width → ((i j : ℕ) → i < height → j < width → getD table (i * width + j) 0 ≡ val (listed k rows columns i j)) → (i j : ℕ) → i < height → j < width → getD (set table (getD rows k 0 * width + getD columns k 0) (val true)) (i * width + j) 0 ≡ val (listed (k + 1) rows columns i j)
+table-more val = table-stored (λ i j. val)
 
 -- with no pairs nothing is listed
 pub listed-none : (rows columns : List ℕ) (i j : ℕ) → listed 0 rows columns i j ≡ false

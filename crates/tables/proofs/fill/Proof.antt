@@ -1,38 +1,36 @@
--- `tables::fill` meets its contract. The loop's invariant: both tables hold the first k pairs. Assumes nothing.
+-- `tables::fill` meets its contract. The loop's invariant: both tables hold those of the first k pairs that count. Assumes nothing.
 use borrow.Author.Needs.{needs}
 use mathlib.Core.Path.{_≡_, refl, subst}
 use Prim.Native.Nat.{ℕ, _≤_, _-_}
 use native.Mathlib.Omega.{arith}
 use lib.ListN.{length, length-set}
-use Rattle.model.specs.Layout.{listed}
 use Rattle.tables.specs.Table.{Table}
-use Rattle.tables.proofs.Held.{table-none, table-next, pair-small, tables-filled}
+use Rattle.tables.proofs.Held.{passed, both, table-none, table-next, pair-small, tables-filled}
 use Rattle.tables.proofs.fill.Statement.{statement}
 use Rattle.tables.proofs.fill.Tie as tie
+use Rattle.tables.proofs.fill.Reads as reads
+use Rattle.tables.proofs.fill.Lts as lts
+use Rattle.tables.proofs.counts.Reads as counts-reads
 
 abbrev Inv-loop : tie.InvT-loop
-Inv-loop operators rides by-operator₀ by-ride₀ pairs k₀ by-operator by-ride k =
+Inv-loop operators rides presence by-operator₀ by-ride₀ n pairs k₀ by-operator by-ride k =
     (k ≤ pairs) ×
     (length by-operator ≡ length by-operator₀) ×
     (length by-ride ≡ length by-ride₀) ×
-    Table (listed k operators rides) 200 60 60 by-operator ×
-    Table (listed k rides operators) 60 200 200 by-ride
+    Table (passed (both presence n) operators rides k) 200 60 60 by-operator ×
+    Table (passed (λ v u. both presence n u v) rides operators k) 60 200 200 by-ride
 
 abbrev μ-loop : tie.MeasureT-loop
-μ-loop operators rides by-operator₀ by-ride₀ pairs k₀ by-operator by-ride k = pairs - k
+μ-loop operators rides presence by-operator₀ by-ride₀ n pairs k₀ by-operator by-ride k = pairs - k
+
+cast-n : tie.Need-cast-n Inv-loop μ-loop
+cast-n c = search needs
 
 cast-pairs : tie.Need-cast-pairs Inv-loop μ-loop
 cast-pairs c = search needs
 
 loop-holds : tie.Need-loop-holds Inv-loop μ-loop
-loop-holds c = let s = c .before in
-    let z = s .pre .1 in (
-      omega arith,
-      refl,
-      refl,
-      table-none _ _ 200 60 _ (omega (arith, z .by-operator-long)) (z .by-operator),
-      table-none _ _ 60 200 _ (omega (arith, z .by-ride-long)) (z .by-ride),
-    )
+loop-holds c = search needs
 
 mul-u : tie.Need-mul-u Inv-loop μ-loop
 mul-u c = search needs
@@ -41,7 +39,7 @@ shared-slice-read-u : tie.Need-shared-slice-read-u Inv-loop μ-loop
 shared-slice-read-u c = search needs
 
 cast-u : tie.Need-cast-u Inv-loop μ-loop
-cast-u c = omega (arith, c .shared-slice-known .given (c .before .before .loop .k))
+cast-u c = search needs
 
 mul-v : tie.Need-mul-v Inv-loop μ-loop
 mul-v c = search needs
@@ -50,37 +48,43 @@ shared-slice-read-v : tie.Need-shared-slice-read-v Inv-loop μ-loop
 shared-slice-read-v c = search needs
 
 cast-v : tie.Need-cast-v Inv-loop μ-loop
-cast-v c = omega (arith, c .shared-slice-known2 .given (c .before .before .before .loop .k))
+cast-v c = search needs
+
+mul-counts : tie.Need-mul-counts Inv-loop μ-loop
+mul-counts c = search needs
+
+shared-slice-read-counts : tie.Need-shared-slice-read-counts Inv-loop μ-loop
+shared-slice-read-counts c = search needs
+
+add-counts : tie.Need-add-counts Inv-loop μ-loop
+add-counts c = search needs
+
+mul-counts-2 : tie.Need-mul-counts-2 Inv-loop μ-loop
+mul-counts-2 c = search needs
+
+shared-slice-read-counts-2 : tie.Need-shared-slice-read-counts-2 Inv-loop μ-loop
+shared-slice-read-counts-2 c = search needs
+
+counts-requires : tie.Need-counts-requires Inv-loop μ-loop
+counts-requires c κs = search needs
 
 mul-by-operator : tie.Need-mul-by-operator Inv-loop μ-loop
-mul-by-operator c = let s = c .before .before .before .before .before in
-    let r = pair-small (s .args .head) (s .args .operators .now) (s .args .rides .now) (s .pre .0) (c .before .before .before .loop .k) (omega arith) in
-    omega (arith, r .0, r .1)
+mul-by-operator c = search needs
 
 add-by-operator : tie.Need-add-by-operator Inv-loop μ-loop
-add-by-operator c = let s = c .before .before .before .before .before in
-    let r = pair-small (s .args .head) (s .args .operators .now) (s .args .rides .now) (s .pre .0) (c .before .before .before .loop .k) (omega arith) in
-    omega (arith, r .0, r .1)
+add-by-operator c = search needs
 
 slice-write-by-operator : tie.Need-slice-write-by-operator Inv-loop μ-loop
-slice-write-by-operator c = let s = c .before .before .before .before .before in
-    let r = pair-small (s .args .head) (s .args .operators .now) (s .args .rides .now) (s .pre .0) (c .before .before .before .loop .k) (omega arith) in
-    omega (arith, r .0, r .1, s .pre .1 .by-operator-long)
+slice-write-by-operator c = search needs
 
 mul-by-ride : tie.Need-mul-by-ride Inv-loop μ-loop
-mul-by-ride c = let s = c .before .before .before .before .before in
-    let r = pair-small (s .args .head) (s .args .operators .now) (s .args .rides .now) (s .pre .0) (c .before .before .before .loop .k) (omega arith) in
-    omega (arith, r .0, r .1)
+mul-by-ride c = search needs
 
 add-by-ride : tie.Need-add-by-ride Inv-loop μ-loop
-add-by-ride c = let s = c .before .before .before .before .before in
-    let r = pair-small (s .args .head) (s .args .operators .now) (s .args .rides .now) (s .pre .0) (c .before .before .before .loop .k) (omega arith) in
-    omega (arith, r .0, r .1)
+add-by-ride c = search needs
 
 slice-write-by-ride : tie.Need-slice-write-by-ride Inv-loop μ-loop
-slice-write-by-ride c = let s = c .before .before .before .before .before in
-    let r = pair-small (s .args .head) (s .args .operators .now) (s .args .rides .now) (s .pre .0) (c .before .before .before .loop .k) (omega arith) in
-    omega (arith, r .0, r .1, s .pre .1 .by-ride-long)
+slice-write-by-ride c = search needs
 
 add-k : tie.Need-add-k Inv-loop μ-loop
 add-k c = search needs
@@ -89,15 +93,7 @@ loop-less : tie.Need-loop-less Inv-loop μ-loop
 loop-less c = search needs
 
 loop-again : tie.Need-loop-again Inv-loop μ-loop
-loop-again c = let s = c .before .before .before .before .before in
-    let r = pair-small (s .args .head) (s .args .operators .now) (s .args .rides .now) (s .pre .0) (c .before .before .before .loop .k) (omega arith) in
-    let l = c .before .before .before .loop in (
-      omega arith,
-      simp length-set (l .inv .1),
-      simp length-set (l .inv .2),
-      table-next _ _ 200 60 (l .k) (l .by-operator) (l .inv .3) (r .0) (r .1),
-      table-next _ _ 60 200 (l .k) (l .by-ride) (l .inv .4) (r .1) (r .0),
-    )
+loop-again c = search needs
 
 same-length : tie.Need-same-length Inv-loop μ-loop
 same-length c = search needs
@@ -106,13 +102,7 @@ same-length-2 : tie.Need-same-length-2 Inv-loop μ-loop
 same-length-2 c = search needs
 
 returns : tie.Need-returns Inv-loop μ-loop
-returns c = let s = c .before .before .before in
-    let a = s .args in
-    let l = c .before .loop in
-    let e : l .k ≡ a .head .pairs = omega arith in
-    tables-filled (a .head) (a .operators .now) (a .rides .now) (s .pre .0) (l .by-operator) (l .by-ride)
-    (subst (λ (k : ℕ). Table (listed k (a .operators .now) (a .rides .now)) 200 60 60 (l .by-operator)) e (l .inv .3))
-    (subst (λ (k : ℕ). Table (listed k (a .rides .now) (a .operators .now)) 60 200 200 (l .by-ride)) e (l .inv .4))
+returns c = search needs
 
 pub fill-spec : {M : Type 1} → statement M
 fill-spec =
@@ -120,6 +110,7 @@ fill-spec =
     (tie.spec
     Inv-loop
     μ-loop
+    cast-n
     cast-pairs
     loop-holds
     mul-u
@@ -128,6 +119,12 @@ fill-spec =
     mul-v
     shared-slice-read-v
     cast-v
+    mul-counts
+    shared-slice-read-counts
+    add-counts
+    mul-counts-2
+    shared-slice-read-counts-2
+    counts-requires
     mul-by-operator
     add-by-operator
     slice-write-by-operator

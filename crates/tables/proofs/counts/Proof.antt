@@ -1,0 +1,14 @@
+-- `tables::counts` meets its contract. Assumes nothing.
+use mathlib.Core.Logic.{⊎-elim}
+use borrow.Author.Tests.{eq-eqb, ne-eqb}
+use Rattle.tables.proofs.counts.Statement.{statement}
+use Rattle.tables.proofs.counts.Tie as tie
+
+returns : tie.Need-returns
+returns c = rw (eq-eqb _ _ (c .before .if1 .taken), c .if2 .taken)
+
+returns-2 : tie.Need-returns-2
+returns-2 c = ⊎-elim (λ w. rw (eq-eqb _ _ (w .0 .taken), w .1 .left)) (λ w. rw (ne-eqb _ _ (w .left))) (c .if1 .came)
+
+pub counts-spec : {M : Type 1} → statement M
+counts-spec = tie.close (tie.spec returns returns-2)
