@@ -1,18 +1,22 @@
-//! (a) Document 003's Algorithm 1, plainly, with adjacency lists. A message changes the lists and computes every core
-//! number anew.
+//! (a) Document 003's Algorithm 1, plainly, with adjacency lists. A message changes the lists, or who is present, and
+//! computes every core number anew.
 
-use board::{Message, GRANT};
+use board::{Message, GRANT, OPERATOR_OFF, OPERATOR_ON, PRESENT, RIDE_IN, WITHDRAWAL};
 
-/// A board over adjacency lists: u of U are the operators, v of V the rides.
+/// A board over adjacency lists: u of U are the operators, v of V the rides. The lists have every clearance.
 pub struct Lists {
     rides_of: Vec<Vec<u16>>,
     operators_of: Vec<Vec<u16>>,
     stamps: Vec<u32>,
     revisions: Vec<u16>,
+    presence_stamps: Vec<u32>,
+    presence_revisions: Vec<u16>,
+    present: Vec<bool>,
     pub index: Vec<u16>,
 }
 
 /// G' of one row: who was removed, and the degrees of those who were not.
+#[derive(Clone)]
 struct Remaining {
     removed_operators: Vec<bool>,
     removed_rides: Vec<bool>,
@@ -27,6 +31,9 @@ impl Lists {
             operators_of: vec![Vec::new(); rides as usize],
             stamps: vec![0; operators as usize * rides as usize],
             revisions: vec![0; operators as usize * rides as usize],
+            presence_stamps: vec![0; operators as usize + rides as usize],
+            presence_revisions: vec![0; operators as usize + rides as usize],
+            present: vec![true; operators as usize + rides as usize],
             index: vec![0; rides as usize * (operators as usize + rides as usize)],
         };
         for &(operator, ride) in pairs {
@@ -38,16 +45,22 @@ impl Lists {
         lists
     }
 
-    /// A grant or a withdrawal in range; the number of index words that differ, or none where it is not later than the
-    /// pair's last.
+    /// A valid message; the number of index words that differ, or none where it is not later than the last of its pair,
+    /// operator or ride.
     pub fn message(&mut self, one: Message) -> Option<u16> {
+        let of_pair = one.kind == GRANT || one.kind == WITHDRAWAL;
+        let taken = if of_pair { self.enter_pair(one) } else { self.enter_presence(one) };
+        taken.then(|| self.compute_core())
+    }
+
+    fn enter_pair(&mut self, one: Message) -> bool {
         let place = one.operator as usize * self.operators_of.len() + one.ride as usize;
         let rides = &mut self.rides_of[one.operator as usize];
         let operators = &mut self.operators_of[one.ride as usize];
         let (here, there) = (rides.binary_search(&one.ride), operators.binary_search(&one.operator));
         let grant = one.kind == GRANT;
         if (one.stamp, one.revision, !grant) <= (self.stamps[place], self.revisions[place], here.is_err()) {
-            return None;
+            return false;
         }
         (self.stamps[place], self.revisions[place]) = (one.stamp, one.revision);
         match (grant, here, there) {
@@ -61,19 +74,48 @@ impl Lists {
             }
             _ => {}
         }
-        Some(self.compute_core())
+        true
+    }
+
+    fn enter_presence(&mut self, one: Message) -> bool {
+        let of_operator = one.kind == OPERATOR_ON || one.kind == OPERATOR_OFF;
+        let place = if of_operator { one.operator as usize } else { self.rides_of.len() + one.ride as usize };
+        let present = one.kind == OPERATOR_ON || one.kind == RIDE_IN;
+        let last = (self.presence_stamps[place], self.presence_revisions[place], !self.present[place]);
+        if (one.stamp, one.revision, !present) <= last {
+            return false;
+        }
+        (self.presence_stamps[place], self.presence_revisions[place]) = (one.stamp, one.revision);
+        self.present[place] = present;
+        true
+    }
+
+    /// G: whoever is off or out is removed, and the degrees are those of the pairs that count.
+    fn whole(&self) -> Remaining {
+        let (operators, rides) = self.present.split_at(self.rides_of.len());
+        let degrees = |lists: &[Vec<u16>], present: &[bool], others: &[bool]| {
+            let count = |list: &[u16]| list.iter().filter(|&&other| others[other as usize]).count() as u16;
+            lists.iter().zip(present).map(|(list, &present)| if present { count(list) } else { 0 }).collect()
+        };
+        Remaining {
+            removed_operators: operators.iter().map(|on| !on).collect(),
+            removed_rides: rides.iter().map(|is_in| !is_in).collect(),
+            operator_degrees: degrees(&self.rides_of, operators, rides),
+            ride_degrees: degrees(&self.operators_of, rides, operators),
+        }
     }
 
     /// Algorithm 1; the number of index words that differ before and after.
     fn compute_core(&mut self) -> u16 {
         let (n, m) = (self.rides_of.len(), self.operators_of.len());
-        let most = self.rides_of.iter().map(Vec::len).max().unwrap_or(0);
+        let whole = self.whole();
+        let most = whole.operator_degrees.iter().copied().max().unwrap_or(0) as usize;
         let mut differ = 0;
         let mut core = vec![0; n + m];
         for alpha in 1..=m {
             core.fill(0);
             if alpha <= most {
-                self.compute_row(alpha as u16, &mut core);
+                self.compute_row(alpha as u16, whole.clone(), &mut core);
             }
             for (word, level) in self.index[(alpha - 1) * (n + m)..alpha * (n + m)].iter_mut().zip(&core) {
                 differ += (word != level) as u16;
@@ -84,16 +126,10 @@ impl Lists {
     }
 
     /// Lines 2 to 13, for one alpha.
-    fn compute_row(&self, alpha: u16, core: &mut [u16]) {
+    fn compute_row(&self, alpha: u16, mut graph: Remaining, core: &mut [u16]) {
         let (n, m) = (self.rides_of.len(), self.operators_of.len());
-        let mut graph = Remaining {
-            removed_operators: vec![false; n],
-            removed_rides: vec![false; m],
-            operator_degrees: self.rides_of.iter().map(|rides| rides.len() as u16).collect(),
-            ride_degrees: self.operators_of.iter().map(|operators| operators.len() as u16).collect(),
-        };
         for operator in 0..n {
-            if graph.operator_degrees[operator] < alpha {
+            if !graph.removed_operators[operator] && graph.operator_degrees[operator] < alpha {
                 self.remove_operator(&mut graph, operator);
             }
         }
@@ -140,20 +176,24 @@ impl Lists {
     }
 }
 
-/// A peel from all ones to the end, over adjacency lists made of the pairs; marks and steps. The order of its removals is
-/// that of a worklist, since settled marks and their steps are the same in any order.
-pub fn peel(operators: u16, rides: u16, pairs: &[(u16, u16)], alpha: u16, beta: u16) -> (Vec<u16>, u16) {
-    let n = operators as usize;
-    let nodes = n + rides as usize;
+/// A peel from all ones to the end, over adjacency lists made of the pairs that count by these presence words, n operators
+/// first; marks and steps. The order of its removals is that of a worklist, since settled marks and their steps are the
+/// same in any order.
+pub fn peel(n: usize, presence: &[u16], pairs: &[(u16, u16)], alpha: u16, beta: u16) -> (Vec<u16>, u16) {
+    let nodes = presence.len();
+    let present = |node: usize| presence[node] == PRESENT;
     let mut neighbours = vec![Vec::new(); nodes];
     for &(operator, ride) in pairs {
-        neighbours[operator as usize].push(n + ride as usize);
-        neighbours[n + ride as usize].push(operator as usize);
+        let (operator, ride) = (operator as usize, n + ride as usize);
+        if present(operator) && present(ride) {
+            neighbours[operator].push(ride);
+            neighbours[ride].push(operator);
+        }
     }
     let limit = |node: usize| if node < n { alpha as usize } else { beta as usize };
     let mut degrees: Vec<usize> = neighbours.iter().map(Vec::len).collect();
     let mut marks = vec![1; nodes];
-    let mut short: Vec<usize> = (0..nodes).filter(|&node| degrees[node] < limit(node)).collect();
+    let mut short: Vec<usize> = (0..nodes).filter(|&node| !present(node) || degrees[node] < limit(node)).collect();
     short.iter().for_each(|&node| marks[node] = 0);
     let mut steps = 0;
     while let Some(node) = short.pop() {

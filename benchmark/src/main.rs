@@ -30,12 +30,14 @@ impl Numbers {
 }
 
 /// One size of board: its pairs at random, and messages that withdraw a listed pair and grant an unlisted one in turn. Four
-/// messages share a stamp, with revisions from 0 to 3.
+/// messages share a stamp, with revisions from 0 to 3. Further messages that a tenth of the operators are off and a tenth
+/// of the rides out.
 struct Case {
     operators: u16,
     rides: u16,
     pairs: Vec<(u16, u16)>,
     messages: Vec<Message>,
+    leaving: Vec<Message>,
 }
 
 impl Case {
@@ -58,7 +60,9 @@ impl Case {
                 make(pair.0, pair.1, stamp(place)).with_revision(place as u16 % 4)
             })
             .collect();
-        Case { operators, rides, pairs, messages }
+        let off = (0..operators).step_by(10).map(|operator| Message::operator_off(operator, START));
+        let leaving = off.chain((0..rides).step_by(10).map(|ride| Message::ride_out(ride, START))).collect();
+        Case { operators, rides, pairs, messages, leaving }
     }
 
     fn nodes(&self) -> usize {
@@ -117,14 +121,15 @@ impl Line {
     }
 }
 
-/// The times of a query beside the Rust loop, and the marks. Both read the board's index and write the same marks.
+/// The times of a query beside the Rust loop, and the marks. Both read the board's index and presence words and write the
+/// same marks.
 fn queries(case: &Case, board: &Board, alpha: u16, beta: u16) -> ([Vec<f64>; 3], Vec<u16>) {
     let marks = RefCell::new(vec![0; case.nodes()]);
     let ask = || board.query(black_box(alpha), black_box(beta), &mut marks.borrow_mut()).unwrap();
-    let levels = board.words().index;
+    let words = board.words();
     let look = || {
         let (n, m) = (case.operators as usize, case.rides as usize);
-        tables::query(n, m, black_box(levels), black_box(alpha), black_box(beta), &mut marks.borrow_mut())
+        tables::query(black_box(&words), n, m, black_box(alpha), black_box(beta), &mut marks.borrow_mut())
     };
     let mut ask_it = || {
         black_box(ask());
@@ -138,25 +143,65 @@ fn queries(case: &Case, board: &Board, alpha: u16, beta: u16) -> ([Vec<f64>; 3],
     (times, asked)
 }
 
-/// Queries with limits of 0, which mark as a peel does.
-fn run_without_limits(case: &Case) -> Vec<Line> {
+/// The times of a peel from all ones, with all steps allowed, and the marks.
+fn peels(case: &Case, board: &Board, tables: &Tables, alpha: u16, beta: u16) -> ([Vec<f64>; 3], Vec<u16>) {
+    let (mut marks, mut same) = (Vec::new(), Vec::new());
+    let (mut peeled, mut listed, mut again) = (None, None, None);
+    let (n, presence) = (case.operators as usize, board.words().presence);
+    let times = measure(
+        10,
+        &mut [
+            &mut || {
+                marks = vec![1; case.nodes()];
+                peeled = Some(board.peel(&mut marks, alpha, beta, u16::MAX).unwrap());
+            },
+            &mut || listed = Some(lists::peel(n, black_box(presence), black_box(&case.pairs), alpha, beta)),
+            &mut || {
+                same = vec![1; case.nodes()];
+                again = black_box(tables).peel(&mut same, alpha, beta, u16::MAX);
+            },
+        ],
+    );
+    let (peeled, listed) = (peeled.unwrap(), listed.unwrap());
+    assert!(peeled.settled && marks == listed.0 && peeled.steps == listed.1 && marks == same);
+    assert!(again == Some((true, peeled.steps)));
+    (times, marks)
+}
+
+/// Queries and a peel where a tenth is off or out, and queries with limits of 0 there, which mark as a peel does.
+fn run_with_some_away(case: &Case) -> Vec<Line> {
     let (operators, rides, pairs) = (case.operators, case.rides, case.pairs.len());
     let mut memory = Box::new(Memory::new());
-    let board = Board::build(memory.parts(), operators, rides, &case.pairs, START).unwrap();
+    let mut board = Board::build(memory.parts(), operators, rides, &case.pairs, START).unwrap();
+    let mut lists = Lists::build(operators, rides, &case.pairs, START);
+    let mut tables = Tables::new(operators, rides, &case.pairs);
+    assert!(tables.build(START));
+    for &one in &case.leaving {
+        let differ = Some(board.message(one).unwrap());
+        assert!(differ == lists.message(one) && differ == tables.message(one));
+    }
+    assert!(board.words() == tables.words() && board.words().index == lists.index);
     let (alpha, beta) = limits(case, &board);
+    let tell = |call| eprintln!("measures {call}, {operators} × {rides}, {pairs} pairs");
     let line = |(call, alpha, beta)| {
-        eprintln!("measures {call}, {operators} × {rides}, {pairs} pairs");
+        tell(call);
         let (times, asked) = queries(case, &board, alpha, beta);
-        assert!(asked == lists::peel(operators, rides, &case.pairs, alpha, beta).0);
+        let (n, presence) = (operators as usize, board.words().presence);
+        assert!(asked == lists::peel(n, presence, &case.pairs, alpha, beta).0);
         Line { call, operators, rides, pairs, times }
     };
-    let without = [
-        ("query, α = 0", 0, beta),
-        ("query, β = 0", alpha, 0),
-        ("query, α = β = 0", 0, 0),
-        ("query, α above rides, β = 0", rides + 1, 0),
+    let asked = [
+        ("query, a tenth off or out", alpha, beta),
+        ("query, the same, α = 0", 0, beta),
+        ("query, the same, β = 0", alpha, 0),
+        ("query, the same, α = β = 0", 0, 0),
+        ("query, the same, α above rides, β = 0", rides + 1, 0),
     ];
-    without.map(line).into()
+    let mut lines: Vec<Line> = asked.map(line).into();
+    let call = "peel, a tenth off or out";
+    tell(call);
+    lines.push(Line { call, operators, rides, pairs, times: peels(case, &board, &tables, alpha, beta).0 });
+    lines
 }
 
 fn run(case: &Case) -> Vec<Line> {
@@ -168,25 +213,34 @@ fn run(case: &Case) -> Vec<Line> {
 
     // Build. The library's and (b)'s memory is lent and the pairs stand in it, (a) makes its lists of the pairs.
     tell("build");
-    let mut tables = Tables::new(n, m, &case.pairs);
-    let places = n as usize * m as usize;
-    let (mut operators, mut rides) = (tables.operator_numbers.clone(), tables.ride_numbers.clone());
-    let (mut stamps, mut revisions, mut index) = (vec![0; places], vec![9; places], vec![0; tables.index.len()]);
+    let (mut tables, mut lent) = (Tables::new(n, m, &case.pairs), Tables::new(n, m, &case.pairs));
+    lent.revisions.fill(9);
+    lent.presence.fill(9);
     let head = board::Head { operators: n, rides: m, pairs: case.pairs.len() as u16 };
     let mut lists = Lists::build(n, m, &case.pairs, START);
     let times = measure(
         10,
         &mut [
             &mut || {
-                let (operators, rides) = (&mut operators, &mut rides);
-                board::build(head, operators, rides, START, &mut stamps, &mut revisions, &mut index).unwrap()
+                board::build(
+                    head,
+                    &mut lent.operator_numbers,
+                    &mut lent.ride_numbers,
+                    START,
+                    &mut lent.stamps,
+                    &mut lent.revisions,
+                    &mut lent.index,
+                    &mut lent.presence_stamps,
+                    &mut lent.presence_revisions,
+                    &mut lent.presence,
+                )
+                .unwrap()
             },
             &mut || lists = Lists::build(n, m, black_box(&case.pairs), START),
             &mut || assert!(black_box(&mut tables).build(START)),
         ],
     );
-    assert!(index == lists.index && index == tables.index);
-    assert!(stamps == tables.stamps && revisions == tables.revisions);
+    assert!(lent.index == lists.index && lent.words() == tables.words());
     lines.push(line("build", times));
 
     // Query, after the build.
@@ -196,27 +250,10 @@ fn run(case: &Case) -> Vec<Line> {
     let (times, asked) = queries(case, &board, alpha, beta);
     lines.push(line("query", times));
 
-    // Peel, from all ones, with all steps allowed.
+    // Peel.
     tell("peel");
-    let (mut marks, mut same) = (Vec::new(), Vec::new());
-    let (mut peeled, mut listed, mut again) = (None, None, None);
-    let times = measure(
-        10,
-        &mut [
-            &mut || {
-                marks = vec![1; case.nodes()];
-                peeled = Some(board.peel(&mut marks, alpha, beta, u16::MAX).unwrap());
-            },
-            &mut || listed = Some(lists::peel(n, m, black_box(&case.pairs), alpha, beta)),
-            &mut || {
-                same = vec![1; case.nodes()];
-                again = black_box(&tables).peel(&mut same, alpha, beta, u16::MAX);
-            },
-        ],
-    );
-    let (peeled, listed) = (peeled.unwrap(), listed.unwrap());
-    assert!(peeled.settled && marks == listed.0 && peeled.steps == listed.1 && marks == same && marks == asked);
-    assert!(again == Some((true, peeled.steps)));
+    let (times, marks) = peels(case, &board, &tables, alpha, beta);
+    assert!(marks == asked);
     lines.push(line("peel", times));
 
     // Message: all are taken.
@@ -323,15 +360,14 @@ fn main() {
     for pairs in [3000, 6000, 12000] {
         lines.extend(run(&Case::new(200, 60, pairs, messages)));
     }
-    lines.extend(run_without_limits(&Case::new(200, 60, 6000, 0)));
+    lines.extend(run_with_some_away(&Case::new(200, 60, 6000, 0)));
     sort(&mut lines);
     println!("Microseconds for one call, medians of {ROUNDS} rounds in which the programs take turns.\n");
     print_lines(&lines);
     println!("At 6,000 pairs:\n");
-    print_goal(&lines, "build", 1, "(a)", 0.4);
-    print_goal(&lines, "message", 1, "(a)", 0.4);
-    print_goal(&lines, "build", 2, "(b)", 1.1);
-    print_goal(&lines, "query", 2, "a Rust loop", 1.1);
+    print_goal(&lines, "build", 1, "(a)", 0.2);
+    print_goal(&lines, "message", 1, "(a)", 0.2);
+    print_goal(&lines, "query", 2, "a Rust loop", 1.15);
     println!();
     print_bursts();
     let sizes = [(50, 15, 375), (100, 30, 1500), (200, 60, 3000), (200, 60, 6000), (200, 60, 12000)];

@@ -14,6 +14,9 @@ struct Words {
     stamps: Vec<u32>,
     revisions: Vec<u16>,
     index: Vec<u16>,
+    presence_stamps: Vec<u32>,
+    presence_revisions: Vec<u16>,
+    presence: Vec<u16>,
 }
 
 impl Words {
@@ -28,6 +31,9 @@ impl Words {
             stamps: words.stamps.to_vec(),
             revisions: words.revisions.to_vec(),
             index: words.index.to_vec(),
+            presence_stamps: words.presence_stamps.to_vec(),
+            presence_revisions: words.presence_revisions.to_vec(),
+            presence: words.presence.to_vec(),
         }
     }
 
@@ -39,6 +45,9 @@ impl Words {
             &self.stamps,
             &self.revisions,
             &self.index,
+            &self.presence_stamps,
+            &self.presence_revisions,
+            &self.presence,
             one,
             &mut spare.head,
             &mut spare.operators,
@@ -46,13 +55,27 @@ impl Words {
             &mut spare.stamps,
             &mut spare.revisions,
             &mut spare.index,
+            &mut spare.presence_stamps,
+            &mut spare.presence_revisions,
+            &mut spare.presence,
         )
         .unwrap()
     }
 
     fn message(&mut self, one: Message) -> u16 {
-        let Words { head, operators, rides, stamps, revisions, index } = self;
-        board::message(head, operators, rides, stamps, revisions, index, one).unwrap()
+        board::message(
+            &mut self.head,
+            &mut self.operators,
+            &mut self.rides,
+            &mut self.stamps,
+            &mut self.revisions,
+            &mut self.index,
+            &mut self.presence_stamps,
+            &mut self.presence_revisions,
+            &mut self.presence,
+            one,
+        )
+        .unwrap()
     }
 
     fn copy_from(&mut self, from: &Words) {
@@ -62,6 +85,9 @@ impl Words {
         self.stamps.copy_from_slice(&from.stamps);
         self.revisions.copy_from_slice(&from.revisions);
         self.index.copy_from_slice(&from.index);
+        self.presence_stamps.copy_from_slice(&from.presence_stamps);
+        self.presence_revisions.copy_from_slice(&from.presence_revisions);
+        self.presence.copy_from_slice(&from.presence);
     }
 }
 

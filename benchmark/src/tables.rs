@@ -1,7 +1,7 @@
 //! (b) The library's own algorithm in Rust: dense tables of bytes, sweeps that subtract whole rows, a limit that rises to
 //! one more than the least degree of a ride.
 
-use board::{Message, Words, GRANT, WITHDRAWAL};
+use board::{Message, Words, GRANT, OPERATOR_OFF, OPERATOR_ON, PRESENT, RIDE_IN, RIDE_OUT, WITHDRAWAL};
 
 /// A board with the parts that the library keeps.
 pub struct Tables {
@@ -13,6 +13,9 @@ pub struct Tables {
     pub stamps: Vec<u32>,
     pub revisions: Vec<u16>,
     pub index: Vec<u16>,
+    pub presence_stamps: Vec<u32>,
+    pub presence_revisions: Vec<u16>,
+    pub presence: Vec<u16>,
 }
 
 fn misplaced(n: u16, m: u16, operators: &[u16], rides: &[u16], i: usize) -> bool {
@@ -31,9 +34,13 @@ fn ascending(n: u16, m: u16, pairs: u16, operators: &[u16], rides: &[u16]) -> bo
     (0..pairs as usize).all(|i| !misplaced(n, m, operators, rides, i))
 }
 
-fn fill(rows: &[u16], columns: &[u16], pairs: usize, width: usize, table: &mut [u8]) {
-    for (&row, &column) in rows[..pairs].iter().zip(&columns[..pairs]) {
-        table[row as usize * width + column as usize] = 1;
+/// Fills two tables of zeros with the pairs that count: the operator is on and the ride is in.
+fn fill(n: usize, operators: &[u16], rides: &[u16], presence: &[u16], by_operator: &mut [u8], by_ride: &mut [u8]) {
+    for (&operator, &ride) in operators.iter().zip(rides) {
+        let (u, v) = (operator as usize, ride as usize);
+        let counts = (presence[u] == PRESENT && presence[n + v] == PRESENT) as u8;
+        by_operator[u * 60 + v] = counts;
+        by_ride[v * 200 + u] = counts;
     }
 }
 
@@ -105,11 +112,10 @@ fn fill_row(by_operator: &[u8], by_ride: &[u8], mut kept: Kept, n: usize, m: usi
     }
 }
 
-/// Fills the index; the number of words that differ before and after.
-fn fill_index(n: usize, m: usize, pairs: usize, operators: &[u16], rides: &[u16], index: &mut [u16]) -> u16 {
+/// Fills the index with the levels of the pairs that count; the number of words that differ before and after.
+fn fill_index(n: usize, m: usize, operators: &[u16], rides: &[u16], presence: &[u16], index: &mut [u16]) -> u16 {
     let (mut by_operator, mut by_ride) = ([0; 12000], [0; 12000]);
-    fill(operators, rides, pairs, 60, &mut by_operator);
-    fill(rides, operators, pairs, 200, &mut by_ride);
+    fill(n, operators, rides, presence, &mut by_operator, &mut by_ride);
     let mut all = Kept { operators: [1; 200], rides: [1; 60], operator_degrees: [0; 200], ride_degrees: [0; 60] };
     by_ride.chunks(200).take(m).for_each(|row| add(&mut all.operator_degrees[..n], row));
     by_operator.chunks(60).take(n).for_each(|row| add(&mut all.ride_degrees[..m], row));
@@ -131,13 +137,10 @@ fn fill_index(n: usize, m: usize, pairs: usize, operators: &[u16], rides: &[u16]
     differ
 }
 
-/// The lowest node that falls short: operators first, then rides.
-fn lowest_short(n: usize, marks: &[u16], degrees: &[u8], alpha: u16, beta: u16) -> Option<usize> {
-    let short = |marks: &[u16], degrees: &[u8], limit: u16| {
-        marks.iter().zip(degrees).position(|(&mark, &degree)| mark == 1 && (degree as u16) < limit)
-    };
-    let ride = || short(&marks[n..], &degrees[n..], beta).map(|ride| n + ride);
-    short(&marks[..n], &degrees[..n], alpha).or_else(ride)
+/// The lowest node that falls short: operators come before rides.
+fn lowest_short(marks: &[u16], degrees: &[u8], limits: &[u16]) -> Option<usize> {
+    let nodes = marks.iter().zip(degrees).zip(limits);
+    nodes.into_iter().position(|((&mark, &degree), &limit)| mark == 1 && (degree as u16) < limit)
 }
 
 impl Tables {
@@ -153,6 +156,9 @@ impl Tables {
             stamps: vec![0; n * m],
             revisions: vec![0; n * m],
             index: vec![0; m * (n + m)],
+            presence_stamps: vec![0; n + m],
+            presence_revisions: vec![0; n + m],
+            presence: vec![0; n + m],
         };
         for (place, pair) in pairs.iter().enumerate() {
             (tables.operator_numbers[place], tables.ride_numbers[place]) = *pair;
@@ -167,6 +173,9 @@ impl Tables {
             stamps: &self.stamps,
             revisions: &self.revisions,
             index: &self.index,
+            presence_stamps: &self.presence_stamps,
+            presence_revisions: &self.presence_revisions,
+            presence: &self.presence,
         }
     }
 
@@ -179,6 +188,9 @@ impl Tables {
             && n * m <= self.stamps.len()
             && n * m <= self.revisions.len()
             && m * (n + m) <= self.index.len()
+            && n + m <= self.presence_stamps.len()
+            && n + m <= self.presence_revisions.len()
+            && n + m <= self.presence.len()
             && self.pairs as usize <= n * m
             && ascending(self.operators, self.rides, self.pairs, &self.operator_numbers, &self.ride_numbers)
     }
@@ -194,8 +206,9 @@ impl Tables {
     }
 
     fn fill_index(&mut self) -> u16 {
-        let (n, m) = (self.operators as usize, self.rides as usize);
-        fill_index(n, m, self.pairs as usize, &self.operator_numbers, &self.ride_numbers, &mut self.index)
+        let (n, m, pairs) = (self.operators as usize, self.rides as usize, self.pairs as usize);
+        let (operators, rides) = (&self.operator_numbers[..pairs], &self.ride_numbers[..pairs]);
+        fill_index(n, m, operators, rides, &self.presence, &mut self.index)
     }
 
     pub fn build(&mut self, start: u32) -> bool {
@@ -206,6 +219,10 @@ impl Tables {
         let places = self.operators as usize * self.rides as usize;
         self.stamps[..places].fill(0);
         self.revisions[..places].fill(0);
+        let nodes = self.operators as usize + self.rides as usize;
+        self.presence_stamps[..nodes].fill(0);
+        self.presence_revisions[..nodes].fill(0);
+        self.presence[..nodes].fill(PRESENT);
         for i in 0..self.pairs as usize {
             let place = self.place(self.operator_numbers[i], self.ride_numbers[i]);
             self.stamps[place] = start;
@@ -214,23 +231,27 @@ impl Tables {
         true
     }
 
-    /// The number of index words that differ, or none where the message is refused.
-    pub fn message(&mut self, one: Message) -> Option<u16> {
-        if !self.accepted() {
-            return None;
-        }
+    /// Whether a listed pair has stamp 0.
+    fn stamp_missing(&self) -> bool {
         let pairs = self.pairs as usize;
         let listed = self.operator_numbers[..pairs].iter().zip(&self.ride_numbers[..pairs]);
-        if listed.into_iter().any(|(&u, &v)| self.stamps[self.place(u, v)] == 0) {
-            return None;
-        }
-        let (operator, ride, grant) = (one.operator, one.ride, one.kind == GRANT);
-        if !grant && one.kind != WITHDRAWAL || self.operators <= operator || self.rides <= ride {
-            return None;
-        }
-        if one.stamp == 0 || 255 < one.revision {
-            return None;
-        }
+        listed.into_iter().any(|(&u, &v)| self.stamps[self.place(u, v)] == 0)
+    }
+
+    fn valid(&self, one: Message) -> bool {
+        let (operator, ride) = (one.operator < self.operators, one.ride < self.rides);
+        let fields = match one.kind {
+            GRANT | WITHDRAWAL => operator && ride,
+            OPERATOR_ON | OPERATOR_OFF => operator && one.ride == 0,
+            RIDE_IN | RIDE_OUT => ride && one.operator == 0,
+            _ => false,
+        };
+        fields && one.stamp != 0 && one.revision <= 255
+    }
+
+    /// Enters a valid message for a pair; whether it is later than the pair's last.
+    fn enter_pair(&mut self, one: Message) -> bool {
+        let (pairs, operator, ride, grant) = (self.pairs as usize, one.operator, one.ride, one.kind == GRANT);
         let before = |i: usize| (self.operator_numbers[i], self.ride_numbers[i]) < (operator, ride);
         let (mut low, mut high) = (0, pairs);
         while low < high {
@@ -244,7 +265,7 @@ impl Tables {
         let is_listed = low < pairs && (self.operator_numbers[low], self.ride_numbers[low]) == (operator, ride);
         let place = self.place(operator, ride);
         if (one.stamp, one.revision, !grant) <= (self.stamps[place], self.revisions[place], !is_listed) {
-            return None;
+            return false;
         }
         (self.stamps[place], self.revisions[place]) = (one.stamp, one.revision);
         if grant && !is_listed {
@@ -258,8 +279,34 @@ impl Tables {
             self.ride_numbers.copy_within(low + 1..pairs, low);
             self.pairs -= 1;
         }
-        self.clear_tails();
-        Some(self.fill_index())
+        true
+    }
+
+    /// Enters a valid message for an operator or ride; whether it is later than the last of that one.
+    fn enter_presence(&mut self, one: Message) -> bool {
+        let present = one.kind == OPERATOR_ON || one.kind == RIDE_IN;
+        let of_operator = one.kind == OPERATOR_ON || one.kind == OPERATOR_OFF;
+        let place = if of_operator { one.operator as usize } else { self.operators as usize + one.ride as usize };
+        let last = (self.presence_stamps[place], self.presence_revisions[place], self.presence[place] != PRESENT);
+        if (one.stamp, one.revision, !present) <= last {
+            return false;
+        }
+        (self.presence_stamps[place], self.presence_revisions[place]) = (one.stamp, one.revision);
+        self.presence[place] = present as u16;
+        true
+    }
+
+    /// The number of index words that differ, or none where the message is refused.
+    pub fn message(&mut self, one: Message) -> Option<u16> {
+        if !self.accepted() || self.stamp_missing() || !self.valid(one) {
+            return None;
+        }
+        let of_pair = one.kind == GRANT || one.kind == WITHDRAWAL;
+        let taken = if of_pair { self.enter_pair(one) } else { self.enter_presence(one) };
+        taken.then(|| {
+            self.clear_tails();
+            self.fill_index()
+        })
     }
 
     /// A peel of at most so many steps; whether it settled, and the steps taken.
@@ -269,9 +316,9 @@ impl Tables {
         }
         let (n, m, pairs) = (self.operators as usize, self.rides as usize, self.pairs as usize);
         let (mut by_operator, mut by_ride) = ([0; 12000], [0; 12000]);
-        fill(&self.operator_numbers, &self.ride_numbers, pairs, 60, &mut by_operator);
-        fill(&self.ride_numbers, &self.operator_numbers, pairs, 200, &mut by_ride);
-        let mut degrees = [0; 260];
+        let (operators, rides) = (&self.operator_numbers[..pairs], &self.ride_numbers[..pairs]);
+        fill(n, operators, rides, &self.presence, &mut by_operator, &mut by_ride);
+        let (mut degrees, mut limits) = ([0; 260], [0; 260]);
         let common = |row: &[u8], marks: &[u16]| row.iter().zip(marks).map(|(a, b)| a * *b as u8).sum::<u8>();
         for x in 0..n + m {
             degrees[x] = if x < n {
@@ -280,10 +327,17 @@ impl Tables {
                 common(&by_ride[(x - n) * 200..(x - n) * 200 + n], &marks[..n])
             };
         }
-        let degrees = &mut degrees[..n + m];
+        let (degrees, limits) = (&mut degrees[..n + m], &mut limits[..n + m]);
+        limits[..n].fill(alpha);
+        limits[n..].fill(beta);
+        for (limit, &word) in limits.iter_mut().zip(&self.presence) {
+            if word != PRESENT {
+                *limit = (n + m + 1) as u16;
+            }
+        }
         let mut steps = 0;
         loop {
-            let Some(x) = lowest_short(n, marks, degrees, alpha, beta) else {
+            let Some(x) = lowest_short(marks, degrees, limits) else {
                 return Some((true, steps));
             };
             if steps == allowed {
@@ -300,31 +354,39 @@ impl Tables {
     }
 }
 
-/// Marks the levels from `least` on, and counts them: a plain loop.
-fn mark(levels: &[u16], least: u16, marks: &mut [u16]) -> u16 {
+/// Marks those present whose level is `least` or above, and counts them: a plain loop.
+fn mark(levels: &[u16], presence: &[u16], least: u16, marks: &mut [u16]) -> u16 {
     let mut count = 0;
-    for (mark, level) in marks.iter_mut().zip(levels) {
-        *mark = (least <= *level) as u16;
+    for ((mark, level), word) in marks.iter_mut().zip(levels).zip(presence) {
+        *mark = ((*word == PRESENT) & (least <= *level)) as u16;
         count += *mark;
     }
     count
 }
 
-/// A plain loop over the row of a query, for operators and then for rides: marks, and the counts. An operator is marked
-/// if alpha is 0 or its level at least the larger of beta and 1, a ride if beta is 0 or its level at least beta, by the
-/// levels of row alpha, of row 1 for alpha 0; where the index has no such row they are 0. It is called, as the library is,
-/// and not inlined.
+/// Marks those present where all without a level are in, else nobody, and counts them.
+fn mark_zeros(presence: &[u16], all: bool, marks: &mut [u16]) -> u16 {
+    let mut count = 0;
+    for (mark, word) in marks.iter_mut().zip(presence) {
+        *mark = ((*word == PRESENT) & all) as u16;
+        count += *mark;
+    }
+    count
+}
+
+/// A plain loop over the row of a query and the presence words, for operators and then for rides: marks, and the counts.
+/// Of those present an operator is marked if alpha is 0 or its level at least the larger of beta and 1, a ride if beta is
+/// 0 or its level at least beta, by the levels of row alpha, of row 1 for alpha 0; where the index has no such row they are
+/// 0. It is called, as the library is, and not inlined.
 #[inline(never)]
-pub fn query(n: usize, m: usize, index: &[u16], alpha: u16, beta: u16, marks: &mut [u16]) -> (u16, u16) {
+pub fn query(words: &Words, n: usize, m: usize, alpha: u16, beta: u16, marks: &mut [u16]) -> (u16, u16) {
     let (operators, rides) = marks[..n + m].split_at_mut(n);
+    let (operators_on, rides_in) = words.presence[..n + m].split_at(n);
     let row = alpha.max(1) as usize;
     if m < row {
-        let (all_operators, all_rides) = ((alpha == 0) as u16, (beta == 0) as u16);
-        operators.fill(all_operators);
-        rides.fill(all_rides);
-        return (n as u16 * all_operators, m as u16 * all_rides);
+        return (mark_zeros(operators_on, alpha == 0, operators), mark_zeros(rides_in, beta == 0, rides));
     }
     let least = if alpha == 0 { 0 } else { beta.max(1) };
-    let (operator_levels, ride_levels) = index[(row - 1) * (n + m)..row * (n + m)].split_at(n);
-    (mark(operator_levels, least, operators), mark(ride_levels, beta, rides))
+    let (operator_levels, ride_levels) = words.index[(row - 1) * (n + m)..row * (n + m)].split_at(n);
+    (mark(operator_levels, operators_on, least, operators), mark(ride_levels, rides_in, beta, rides))
 }

@@ -82,7 +82,13 @@ fn exceeds(stamp: u32, revision: u16, other: u32, other_revision: u16) -> bool
 pub fn gives(kind: u16) -> bool
     ensures { λ r. ⌜ r ≡ giving kind ⌝ }
 {
-    kind == 1 || kind == 3 || kind == 5
+    if kind == 1 {
+        return true;
+    }
+    if kind == 3 {
+        return true;
+    }
+    kind == 5
 }
 
 // Whether a message is later than the last of its slot, of this stamp and revision, which gives or takes away.

@@ -3,10 +3,15 @@
 //! a second argument is a seed other than that of the stored files.
 
 use reference::corrections::{Corrections, BESIDE_14, CORRECTIONS, SHORT_REVISIONS, START};
-use reference::frames::{replay_cover, write_end, Call, Framed, Memory, Outcome, Part, Reference};
-use reference::frames::{INDEX_PLACES, PAIR_PLACES};
+use reference::frames::{replay_cover, write_end, Call, Framed, Memory, Outcome, Part, Reference, PLACES};
+use reference::presence::{
+    Delivery, Last, Words, BEFORE_15, BESIDE_15, BESIDE_6, BUILT, BUILT_OVER, DELIVERIES, NODES,
+};
+use reference::presence::{ONE_SIDED, OTHERS, PEELS, QUERIES, SHORT_PRESENCE, TURNS, UNSTAMPED, WORDS_BESIDE_6};
 use reference::samples::{Pair, BY_NO_INDEX, LIMITS_FROM_0, NO_INDEX, PAIRS, PEELS_FROM_0, SHORT_FROM_0};
-use reference::{cover, Head, Lengths, Message, Parts, Vectors, GRANT, WITHDRAWAL};
+use reference::{
+    cover, query, Head, Lengths, Message, Parts, Vectors, GRANT, OPERATOR_OFF, PRESENT, RIDE_OUT, WITHDRAWAL,
+};
 use std::collections::{BTreeMap, BTreeSet};
 use std::path::Path;
 
@@ -14,6 +19,9 @@ const SEED: u64 = 20_250_101;
 
 /// Words that are near an edge of 16 bits, of a size or of a mark.
 const ODD_WORDS: [u16; 8] = [0, 1, 2, 7, 255, 256, 32768, 65535];
+
+/// Words of who is off or out. Every word but 1 is one.
+const ABSENT: [u16; 8] = [0, 0, 0, 2, 7, 256, 257, 65535];
 
 // Random numbers
 
@@ -75,16 +83,20 @@ impl Random {
         needed + self.pick(&[0, 0, 1, 2, 5])
     }
 
-    /// For each part of a board a length that is at least the one needed. That of the revisions comes from a generator of
-    /// its own: what `cover` is given doesn't depend on it.
+    /// For each part of a board a length that is at least the one needed. Those of the parts that document 02 adds come from
+    /// a generator of their own: what `cover` is given doesn't depend on them.
     fn lengths(&mut self, head: Head) -> Lengths {
         let needed = head.lengths();
+        let mut others = Random(!self.0);
         Parts {
             operators: self.length(needed.operators),
             rides: self.length(needed.rides),
             stamps: self.length(needed.stamps),
-            revisions: Random(!self.0).length(needed.revisions),
+            revisions: others.length(needed.revisions),
             index: self.length(needed.index),
+            presence_stamps: others.length(needed.presence_stamps),
+            presence_revisions: others.length(needed.presence_revisions),
+            presence: others.length(needed.presence),
         }
     }
 
@@ -111,11 +123,33 @@ const ZEROS: [&str; 7] = [
     "a limit 0 and the index of no board",
 ];
 
-/// How often each call gave each number, and was given limits of each kind that has a 0 without being refused.
+/// Who is off or out in a query or peel. The last but one is for queries alone, and the last for peels alone.
+const ABSENCES: [&str; 6] = [
+    "an operator off",
+    "a ride out",
+    "a word of presence above 1",
+    "both limits 0 and somebody off or out",
+    "somebody off or out whom the index and the limits would mark",
+    "somebody off or out left marked",
+];
+
+/// The kinds of message that are taken. The last is for message calls alone.
+const TAKEN: [&str; 7] = [
+    "grant taken",
+    "withdrawal taken",
+    "operator on taken",
+    "operator off taken",
+    "ride in taken",
+    "ride out taken",
+    "grant or withdrawal taken whose operator is off or ride out",
+];
+
+/// How often each call gave each number, and how often it was of each kind of `ZEROS`, `ABSENCES` and `TAKEN`, without
+/// being refused.
 #[derive(Default)]
 struct Tally {
     numbers: BTreeMap<(&'static str, u16), usize>,
-    zeros: BTreeMap<(&'static str, &'static str), usize>,
+    kinds: BTreeMap<(&'static str, &'static str), usize>,
 }
 
 impl Tally {
@@ -123,8 +157,15 @@ impl Tally {
         *self.numbers.entry((name, code)).or_default() += 1;
     }
 
-    /// Counts the limits of a call that wasn't refused, under each kind of `ZEROS` that they are of. Words above
-    /// operators are no levels.
+    /// Counts a call under each of the kinds that it is of.
+    fn is_of(&mut self, name: &'static str, kinds: &[&'static str], are: &[bool]) {
+        assert_eq!(kinds.len(), are.len());
+        for (kind, _) in kinds.iter().zip(are).filter(|(_, is)| **is) {
+            *self.kinds.entry((name, *kind)).or_default() += 1;
+        }
+    }
+
+    /// Counts the limits of a call, under each kind of `ZEROS`. Words above operators are no levels.
     fn limits(&mut self, name: &'static str, head: Head, alpha: u16, beta: u16, index: &[u16]) {
         let has_zero = alpha == 0 || beta == 0;
         let are = [
@@ -136,9 +177,29 @@ impl Tally {
             has_zero && head.operators == 0,
             has_zero && index.iter().any(|word| *word > head.operators),
         ];
-        for (kind, _) in ZEROS.into_iter().zip(are).filter(|(_, is)| *is) {
-            *self.zeros.entry((name, kind)).or_default() += 1;
-        }
+        self.is_of(name, &ZEROS, &are);
+    }
+
+    /// Counts a query or peel under each kind of `ABSENCES`, of which the last two are given.
+    fn absences(&mut self, name: &'static str, head: Head, both_zero: bool, presence: &[u16], last: [bool; 2]) {
+        let (operators, rides) = presence.split_at(head.operators as usize);
+        let is_absent = |word: &u16| *word != PRESENT;
+        let are = [
+            operators.iter().any(is_absent),
+            rides.iter().any(is_absent),
+            presence.iter().any(|word| *word > 1),
+            both_zero && presence.iter().any(is_absent),
+            last[0],
+            last[1],
+        ];
+        self.is_of(name, &ABSENCES, &are);
+    }
+
+    /// Counts a taken message, under each kind of `TAKEN`, of which the last is given.
+    fn taken(&mut self, name: &'static str, kind: u16, last: bool) {
+        let mut are = [false; 7];
+        (are[kind as usize - 1], are[6]) = (true, last);
+        self.is_of(name, &TAKEN, &are);
     }
 
     /// A call gives each of these numbers at least `least` times, and no other one. 11 is in no list: it is never given.
@@ -152,10 +213,10 @@ impl Tally {
         }
     }
 
-    /// A call is given limits of each kind at least `least` times.
-    fn covers_zeros(&self, name: &'static str, kinds: &[&'static str], least: usize) {
+    /// A call is of each of these kinds at least `least` times.
+    fn covers_kinds(&self, name: &'static str, kinds: &[&'static str], least: usize) {
         for kind in kinds {
-            let times = self.zeros.get(&(name, *kind)).copied().unwrap_or(0);
+            let times = self.kinds.get(&(name, *kind)).copied().unwrap_or(0);
             assert!(times >= least, "{name}: {kind} {times} times only");
         }
     }
@@ -164,7 +225,7 @@ impl Tally {
         for ((call, code), times) in &self.numbers {
             println!("  {call}: {code} given {times} times");
         }
-        for ((call, kind), times) in &self.zeros {
+        for ((call, kind), times) in &self.kinds {
             println!("  {call}: {kind} {times} times");
         }
     }
@@ -189,31 +250,55 @@ impl Stream {
         call.write(&mut self.bytes);
         let (outcome, head) = call.run(&mut Reference, &mut self.memory);
         self.text += &format!("{outcome}\n");
-        let code = outcome.numbers[0];
+        self.count(&call, outcome.numbers[0]);
+        (outcome, head)
+    }
+
+    /// Counts a call that was made, and its number.
+    fn count(&mut self, call: &Call, code: u16) {
+        let Stream { memory, tally, .. } = self;
+        let Vectors { index, presence, .. } = &memory.parts;
         match call {
-            Call::Build { .. } => self.tally.gave("build", code),
+            Call::Build { .. } => tally.gave("build", code),
             Call::Query { head, alpha, beta, .. } => {
-                self.tally.gave("query", code);
+                tally.gave("query", code);
                 if code == 0 {
-                    self.tally.limits("query", head, alpha, beta, &self.memory.parts.index[..head.words()]);
+                    let (index, presence, nodes) = (&index[..head.words()], &presence[..head.nodes()], head.nodes());
+                    let mut marks = vec![0; nodes];
+                    query(*head, index, &vec![PRESENT; nodes], *alpha, *beta, &mut marks);
+                    tally.limits("query", *head, *alpha, *beta, index);
+                    let last = [memory.marks[..nodes] != marks, false];
+                    tally.absences("query", *head, (*alpha, *beta) == (0, 0), presence, last);
                 }
             }
             Call::Peel { head, alpha, beta, .. } => {
-                self.tally.gave("peel", code);
+                tally.gave("peel", code);
                 if code == 0 {
-                    self.tally.limits("peel", head, alpha, beta, &[]);
+                    let presence = &presence[..head.nodes()];
+                    let is_left = presence.iter().zip(&memory.marks).any(|(word, mark)| *word != PRESENT && *mark == 1);
+                    tally.limits("peel", *head, *alpha, *beta, &[]);
+                    tally.absences("peel", *head, (*alpha, *beta) == (0, 0), presence, [false, is_left]);
                 }
             }
-            Call::Message { .. } => self.tally.gave("message", code),
+            Call::Message { head, message: Message { kind, operator, ride, .. }, .. } => {
+                tally.gave("message", code);
+                if code == 0 {
+                    let is_present = |node: usize| presence[node] == PRESENT;
+                    let are_present = is_present(*operator as usize) && is_present(head.ride_node(*ride));
+                    tally.taken("message", *kind, *kind <= WITHDRAWAL && !are_present);
+                }
+            }
             Call::Messages { messages, .. } => {
-                self.tally.gave("message list", code);
+                tally.gave("message list", code);
                 let answered = if code == 0 { messages.len() } else { 0 };
-                for place in 0..answered {
-                    self.tally.gave("message of a list", self.memory.answers[place]);
+                for (message, number) in messages.iter().zip(&memory.answers).take(answered) {
+                    tally.gave("message of a list", *number);
+                    if *number == 0 {
+                        tally.taken("message of a list", message.kind, false);
+                    }
                 }
             }
         }
-        (outcome, head)
     }
 
     /// Makes a call whose answer and marks were worked out by hand.
@@ -226,7 +311,7 @@ impl Stream {
 // Boards, whole and damaged
 
 /// How many damages there are that 1 to 5 speak of.
-const DAMAGES: usize = 7;
+const DAMAGES: usize = 8;
 
 /// A board with what is lent of it, before damage is done to it.
 #[derive(Clone)]
@@ -271,14 +356,12 @@ impl Draft {
     }
 
     fn parts(&self) -> Framed {
-        let Draft { words, others, lengths, .. } = self;
-        Parts {
-            operators: Part::given(lengths.operators.min(PAIR_PLACES), &words.operators, *others),
-            rides: Part::given(lengths.rides.min(PAIR_PLACES), &words.rides, *others),
-            stamps: Part::given(lengths.stamps.min(PAIR_PLACES), &words.stamps, *others as u32 * 65_537),
-            revisions: Part::given(lengths.revisions.min(PAIR_PLACES), &words.revisions, *others),
-            index: Part::given(lengths.index.min(INDEX_PLACES), &words.index, *others),
-        }
+        let lengths =
+            self.lengths.zip(PLACES).map(|(length, most)| length.min(most), |(length, most)| length.min(most));
+        self.words.view().zip(lengths).map(
+            |(words, length)| Part::given(length, words, self.others),
+            |(stamps, length)| Part::given(length, stamps, self.others as u32 * 65_537),
+        )
     }
 
     fn build(&self, start: u32) -> Call {
@@ -286,8 +369,8 @@ impl Draft {
     }
 
     fn peel(&self, alpha: u16, beta: u16, steps: u16, marks: Part<u16>) -> Call {
-        let Parts { operators, rides, .. } = self.parts();
-        Call::Peel { head: self.head, alpha, beta, steps, operators, rides, marks }
+        let Parts { operators, rides, presence, .. } = self.parts();
+        Call::Peel { head: self.head, alpha, beta, steps, operators, rides, presence, marks }
     }
 
     /// A size above its bound. The parts may be lent as long as that size would need.
@@ -318,6 +401,16 @@ impl Draft {
             self.lengths.operators = random.short(self.head.places());
         } else {
             self.lengths.rides = random.short(self.head.places());
+        }
+    }
+
+    /// A part of presence that is too short.
+    fn shorten_presence(&mut self, random: &mut Random) {
+        let length = random.short(self.head.nodes());
+        match random.below(3) {
+            0 => self.lengths.presence_stamps = length,
+            1 => self.lengths.presence_revisions = length,
+            _ => self.lengths.presence = length,
         }
     }
 
@@ -360,7 +453,8 @@ impl Draft {
             2 => self.lengths.stamps = random.short(self.head.places()),
             3 => self.lengths.revisions = random.short(self.head.places()),
             4 => self.lengths.index = random.short(self.head.words()),
-            5 => self.too_many_pairs(random),
+            5 => self.shorten_presence(random),
+            6 => self.too_many_pairs(random),
             _ => self.disorder(random),
         }
     }
@@ -383,6 +477,12 @@ fn few_faults(random: &mut Random) -> usize {
 fn marks_of(random: &mut Random, nodes: usize) -> Vec<u16> {
     let ones = random.pick(&[1, 2, 6, 6, 6]);
     (0..nodes).map(|_| (random.below(6) < ones) as u16).collect()
+}
+
+/// Who is on and in: everybody, most, few or nobody.
+fn presence_of(random: &mut Random, nodes: usize) -> Vec<u16> {
+    let absent = random.pick(&[0, 1, 1, 2, 2, 5, 6]);
+    (0..nodes).map(|_| if random.below(6) < absent { random.pick(&ABSENT) } else { PRESENT }).collect()
 }
 
 /// Limits at and around those that can be met; one in four is 0.
@@ -429,6 +529,7 @@ fn query_case(random: &mut Random) -> Call {
     let mut draft = Draft::small_or_one_sided(random);
     draft.words.index = index_words(random, &draft);
     let nodes = draft.head.nodes();
+    draft.words.presence = presence_of(random, nodes);
     let mut marks = Part::filled(random.length(nodes), random.word());
     let alpha = limit(random, draft.head.rides);
     let beta = limit(random, draft.head.operators);
@@ -436,21 +537,24 @@ fn query_case(random: &mut Random) -> Call {
         draft.head.pairs = random.word();
     }
     for _ in 0..few_faults(random) {
-        match random.below(3) {
+        match random.below(4) {
             0 => {
                 draft.oversize(random);
                 marks.len = draft.head.nodes().min(265);
             }
             1 => draft.lengths.index = random.short(draft.head.words()).min(20),
+            2 => draft.lengths.presence = random.short(nodes),
             _ => marks.len = random.short(nodes),
         }
     }
-    Call::Query { head: draft.head, alpha, beta, index: draft.parts().index, marks }
+    let Parts { index, presence, .. } = draft.parts();
+    Call::Query { head: draft.head, alpha, beta, index, presence, marks }
 }
 
 fn peel_case(random: &mut Random) -> Call {
     let mut draft = Draft::small_or_one_sided(random);
     let nodes = draft.head.nodes();
+    draft.words.presence = presence_of(random, nodes);
     let mut words = marks_of(random, nodes);
     let mut marks_len = random.length(nodes);
     let alpha = limit(random, draft.head.rides);
@@ -462,15 +566,16 @@ fn peel_case(random: &mut Random) -> Call {
         _ => 65_535,
     };
     for _ in 0..few_faults(random) {
-        match random.below(7) {
+        match random.below(8) {
             0 => {
                 draft.oversize(random);
                 marks_len = draft.head.nodes().min(265);
             }
             1 => draft.shorten_pairs(random),
-            2 => marks_len = random.short(nodes),
-            3 => draft.too_many_pairs(random),
-            4..=5 => draft.disorder(random),
+            2 => draft.lengths.presence = random.short(nodes),
+            3 => marks_len = random.short(nodes),
+            4 => draft.too_many_pairs(random),
+            5..=6 => draft.disorder(random),
             _ => {
                 if nodes > 0 {
                     words[random.below(nodes)] = random.pick(&[2, 3, 256, 65_535]);
@@ -490,7 +595,8 @@ fn some_revision(random: &mut Random) -> u16 {
     }
 }
 
-/// A message for a board of these sizes, mostly a valid one. Stamps are few, so that many are equal.
+/// A message for a board of these sizes, mostly a valid one. Three in five are for a pair. Stamps are few, so that many are
+/// equal.
 fn some_message(random: &mut Random, head: Head, start: u32) -> Message {
     let size = |random: &mut Random, count: u16| {
         if count == 0 || random.one_in(25) {
@@ -499,14 +605,16 @@ fn some_message(random: &mut Random, head: Head, start: u32) -> Message {
             random.below(count as usize) as u16
         }
     };
+    let unused = |random: &mut Random| if random.one_in(15) { random.pick(&[1, 2, 256, 65_535]) } else { 0 };
+    let kind = if random.one_in(20) {
+        random.pick(&[0, 7, 256, 257, 260, 65_535])
+    } else {
+        random.pick(&[1, 1, 1, 1, 2, 2, 3, 4, 5, 6])
+    };
     Message {
-        kind: if random.one_in(20) {
-            random.pick(&[0, 3, 256, 257, 65_535])
-        } else {
-            random.pick(&[GRANT, GRANT, WITHDRAWAL])
-        },
-        operator: size(random, head.operators),
-        ride: size(random, head.rides),
+        kind,
+        operator: if kind == 5 || kind == 6 { unused(random) } else { size(random, head.operators) },
+        ride: if kind == 3 || kind == 4 { unused(random) } else { size(random, head.rides) },
         revision: some_revision(random),
         stamp: match random.below(20) {
             0 => 0,
@@ -519,28 +627,41 @@ fn some_message(random: &mut Random, head: Head, start: u32) -> Message {
     }
 }
 
-/// A board that a message may find: stamps and revisions of its own, and an index that need not be that of the pairs.
+/// One of the two kinds for the same pair, operator or ride.
+fn like_kind(random: &mut Random, kind: u16) -> u16 {
+    if (1..=6).contains(&kind) {
+        (kind - 1) / 2 * 2 + 1 + random.below(2) as u16
+    } else {
+        kind
+    }
+}
+
+/// A board that a message may find: stamps, revisions and words of its own, and an index that need not be that of the pairs.
 fn found_board(random: &mut Random) -> Draft {
     let mut draft = Draft::small(random);
-    let Vectors { mut stamps, mut revisions, mut index, .. } = built(&draft);
+    let mut words = built(&draft);
     match random.below(4) {
-        0 => index.iter_mut().for_each(|word| *word = random.word()),
-        1 => index.iter_mut().for_each(|word| {
+        0 => words.index.iter_mut().for_each(|word| *word = random.word()),
+        1 => words.index.iter_mut().for_each(|word| {
             if random.one_in(5) {
                 *word = random.below(5) as u16;
             }
         }),
         _ => {}
     }
-    for stamp in &mut stamps {
+    for stamp in &mut words.stamps {
         *stamp = if *stamp == 0 {
             random.pick(&[0, 0, 0, 1, 2, 4_294_967_295])
         } else {
             random.pick(&[1, 2, 3, 4, 4_294_967_295])
         };
     }
-    revisions.iter_mut().for_each(|revision| *revision = some_revision(random));
-    (draft.words.stamps, draft.words.revisions, draft.words.index) = (stamps, revisions, index);
+    words.revisions.iter_mut().for_each(|revision| *revision = some_revision(random));
+    words.presence_stamps.iter_mut().for_each(|stamp| *stamp = random.pick(&[0, 0, 1, 2, 3, 4, 4_294_967_295]));
+    words.presence_revisions.iter_mut().for_each(|revision| *revision = some_revision(random));
+    words.presence = presence_of(random, draft.head.nodes());
+    let Vectors { operators, rides, .. } = draft.words;
+    draft.words = Vectors { operators, rides, ..words };
     draft
 }
 
@@ -593,6 +714,7 @@ fn kept_query(random: &mut Random, head: Head, alpha: u16, beta: u16) -> Call {
         alpha,
         beta,
         index: Part::kept(random.length(head.words())),
+        presence: Part::kept(random.length(head.nodes())),
         marks: Part::filled(random.length(head.nodes()), random.word()),
     }
 }
@@ -605,6 +727,7 @@ fn kept_peel(random: &mut Random, head: Head, alpha: u16, beta: u16, steps: u16,
         steps,
         operators: Part::kept(random.length(head.places())),
         rides: Part::kept(random.length(head.places())),
+        presence: Part::kept(random.length(head.nodes())),
         marks,
     }
 }
@@ -621,12 +744,15 @@ fn whole_parts(random: &mut Random, head: Head) -> Framed {
 /// One of the parts is lent too short.
 fn short_parts(random: &mut Random, head: Head) -> Framed {
     let mut parts = whole_parts(random, head);
-    match random.below(5) {
+    match random.below(8) {
         0 => parts.operators.len = random.short(head.places()),
         1 => parts.rides.len = random.short(head.places()),
         2 => parts.stamps.len = random.short(head.places()),
         3 => parts.revisions.len = random.short(head.places()),
-        _ => parts.index.len = random.short(head.words()),
+        4 => parts.index.len = random.short(head.words()),
+        5 => parts.presence_stamps.len = random.short(head.nodes()),
+        6 => parts.presence_revisions.len = random.short(head.nodes()),
+        _ => parts.presence.len = random.short(head.nodes()),
     }
     parts
 }
@@ -652,14 +778,7 @@ enum Between {
 
 /// The words of a board, to the lengths of document 01's layout.
 fn board_words(memory: &Memory, head: Head) -> Vectors {
-    let (parts, lengths) = (&memory.parts, head.lengths());
-    Parts {
-        operators: parts.operators[..lengths.operators].to_vec(),
-        rides: parts.rides[..lengths.rides].to_vec(),
-        stamps: parts.stamps[..lengths.stamps].to_vec(),
-        revisions: parts.revisions[..lengths.revisions].to_vec(),
-        index: parts.index[..lengths.index].to_vec(),
-    }
+    memory.parts.first(head.lengths()).copy()
 }
 
 /// Delivers messages in the order given to the board that a build left, cut into calls at random. Gives the head that
@@ -730,8 +849,9 @@ fn delivery_case(random: &mut Random, stream: &mut Stream) {
     let count = 4 + random.below(24);
     let mut messages: Vec<Message> = (0..count).map(|_| some_message(random, draft.head, start)).collect();
     for _ in 0..random.below(8) {
-        let (kind, revision) = (random.pick(&[GRANT, WITHDRAWAL]), some_revision(random));
-        messages.push(Message { kind, revision, ..messages[random.below(count)] });
+        let corrected = messages[random.below(count)];
+        let (kind, revision) = (like_kind(random, corrected.kind), some_revision(random));
+        messages.push(Message { kind, revision, ..corrected });
     }
     for _ in 0..random.below(8) {
         messages.push(messages[random.below(messages.len())]);
@@ -755,6 +875,13 @@ fn delivery_case(random: &mut Random, stream: &mut Stream) {
 
 fn sample_draft(random: &mut Random) -> Draft {
     Draft::new(random, 4, 3, &PAIRS)
+}
+
+/// The same, with these words of presence.
+fn with_presence(random: &mut Random, words: &Words) -> Draft {
+    let mut draft = sample_draft(random);
+    draft.words.presence = words.to_vec();
+    draft
 }
 
 fn sample_calls(random: &mut Random, stream: &mut Stream) {
@@ -795,15 +922,16 @@ fn samples_from_0(random: &mut Random, stream: &mut Stream) {
     for &(alpha, beta, expected) in BY_NO_INDEX {
         let index = Part::given(random.length(8), &NO_INDEX, random.word());
         let marks = Part::filled(random.length(4), random.word());
-        let query = Call::Query { head, alpha, beta, index, marks };
+        let query = Call::Query { head, alpha, beta, index, presence: Part::filled(4, PRESENT), marks };
         stream.gives(query, &[0, expected[0] + expected[1], expected[2] + expected[3]], &expected);
     }
     for &(operators, rides, index, marks, (alpha, beta)) in SHORT_FROM_0 {
         let head = Head { operators, rides, pairs: 0 };
-        let query = Call::Query { head, alpha, beta, index: Part::filled(index, 1), marks: Part::filled(marks, 9) };
+        let (presence, index) = (Part::filled(head.nodes(), PRESENT), Part::filled(index, 1));
+        let query = Call::Query { head, alpha, beta, index, presence, marks: Part::filled(marks, 9) };
         stream.gives(query, &[3, 0, 0], &vec![9; marks]);
     }
-    let draft = sample_draft(random);
+    let draft = with_presence(random, &[PRESENT; 7]);
     for &(marks, (alpha, beta), steps, numbers, left) in PEELS_FROM_0 {
         let marks = Part::given(random.length(7), &marks, random.word());
         stream.gives(draft.peel(alpha, beta, steps, marks), &numbers, &left);
@@ -898,6 +1026,124 @@ fn sample_revisions(random: &mut Random, stream: &mut Stream) {
     }
 }
 
+/// Document 02's operators who have gone home and rides out of service, with what was worked out by hand: builds, queries
+/// and peels.
+fn sample_presence(random: &mut Random, stream: &mut Stream) {
+    for words in BUILT_OVER {
+        stream.call(with_presence(random, &words).build(START));
+        assert_eq!(stream.memory.parts.presence[..7], [PRESENT; 7]);
+    }
+    for &(words, index, (alpha, beta), marks) in QUERIES {
+        let mut draft = with_presence(random, &words);
+        draft.words.index = index.to_vec();
+        let Parts { index, presence, .. } = draft.parts();
+        let marked = Part::filled(random.length(7), random.word());
+        let query = Call::Query { head: draft.head, alpha, beta, index, presence, marks: marked };
+        stream.gives(query, &[0, marks[..4].iter().sum(), marks[4..].iter().sum()], &marks);
+    }
+    for &(words, marks, (alpha, beta), steps, numbers, left) in PEELS {
+        let marks = Part::given(random.length(7), &marks, random.word());
+        stream.gives(with_presence(random, &words).peel(alpha, beta, steps, marks), &numbers, &left);
+    }
+    for &(head, places, number) in SHORT_PRESENCE {
+        for part in 0..3 {
+            let mut draft = Draft { head, lengths: random.lengths(head), ..with_presence(random, &[PRESENT; 7]) };
+            shorten_to(&mut draft.lengths, part, places);
+            assert_eq!(stream.call(draft.build(START)).0.numbers, [number]);
+        }
+        let mut draft = Draft { head, lengths: random.lengths(head), ..with_presence(random, &[PRESENT; 7]) };
+        draft.lengths.presence = places;
+        let marks = all_ones(random, head);
+        assert_eq!(stream.call(draft.peel(1, 1, 65_535, marks.clone())).0.numbers[0], number);
+        let Parts { index, presence, .. } = draft.parts();
+        // A query reads no pairs.
+        let number = if number == 4 { 0 } else { number };
+        let query = Call::Query { head, alpha: 1, beta: 1, index, presence, marks };
+        assert_eq!(stream.call(query).0.numbers[0], number);
+    }
+}
+
+/// Gives a length to one of the three parts of presence.
+fn shorten_to(lengths: &mut Lengths, part: usize, places: usize) {
+    match part {
+        0 => lengths.presence_stamps = places,
+        1 => lengths.presence_revisions = places,
+        _ => lengths.presence = places,
+    }
+}
+
+/// A board that stays, but for the last of each operator and ride.
+fn parts_with_lasts(random: &mut Random, head: Head, lasts: &[Last]) -> Framed {
+    let mut parts = whole_parts(random, head);
+    let words: Vec<u16> = lasts.iter().map(|last| last.0).collect();
+    let revisions: Vec<u16> = lasts.iter().map(|last| last.1).collect();
+    let stamps: Vec<u32> = lasts.iter().map(|last| last.2).collect();
+    parts.presence = Part::changed(parts.presence.len, 0, &words);
+    parts.presence_revisions = Part::changed(parts.presence_revisions.len, 0, &revisions);
+    parts.presence_stamps = Part::changed(parts.presence_stamps.len, 0, &stamps);
+    parts
+}
+
+/// What a delivery leaves was worked out by hand.
+fn is_left(stream: &Stream, delivery: &Delivery) {
+    let Vectors { operators, rides, index, presence, .. } = &stream.memory.parts;
+    let pairs: Vec<Pair> = operators[..12].iter().copied().zip(rides[..12].iter().copied()).collect();
+    let listed = delivery.pairs.len();
+    assert_eq!((&pairs[..listed], &pairs[listed..]), (delivery.pairs, &vec![(0, 0); 12 - listed][..]));
+    assert_eq!(presence[..7], delivery.left);
+    assert_eq!(index[..21], [&delivery.rows[0][..], &delivery.rows[1], &[0; 7]].concat());
+}
+
+/// The same: messages of the six kinds.
+fn sample_turns(random: &mut Random, stream: &mut Stream) {
+    let draft = sample_draft(random);
+    for send in [sent, listed] {
+        for delivery in DELIVERIES {
+            stream.call(draft.build(START));
+            let mut parts = whole_parts(random, BUILT);
+            parts.presence = Part::changed(parts.presence.len, 0, &delivery.came);
+            assert_eq!(send(random, stream, BUILT, parts, &delivery.messages()), delivery.numbers());
+            is_left(stream, delivery);
+        }
+        for (turns, node) in TURNS.iter().flat_map(|turns| NODES.iter().map(move |node| (turns, node))) {
+            stream.call(draft.build(START));
+            let mut lasts = [OTHERS; 7];
+            lasts[node.place] = turns.stored;
+            let parts = parts_with_lasts(random, BUILT, &lasts);
+            assert_eq!(send(random, stream, BUILT, parts, &turns.messages(node)), turns.numbers());
+            let Vectors { presence, presence_revisions, presence_stamps, .. } = &stream.memory.parts;
+            let place = node.place;
+            assert_eq!((presence[place], presence_revisions[place], presence_stamps[place]), turns.left);
+        }
+        for &(message, number) in BESIDE_15 {
+            stream.call(draft.build(START));
+            let parts = parts_with_lasts(random, BUILT, &[BEFORE_15; 7]);
+            assert_eq!(send(random, stream, BUILT, parts, &[message]), [number]);
+        }
+        for (words, message) in WORDS_BESIDE_6.iter().flat_map(|words| BESIDE_6.iter().map(move |one| (words, one))) {
+            stream.call(draft.build(START));
+            let mut parts = whole_parts(random, BUILT);
+            parts.presence = Part::changed(parts.presence.len, 0, words);
+            parts.stamps = Part::changed(parts.stamps.len, BUILT.place(UNSTAMPED.0, UNSTAMPED.1), &[0]);
+            assert_eq!(send(random, stream, BUILT, parts, &[*message]), [6]);
+        }
+        for &(head, message, number) in ONE_SIDED {
+            let draft = Draft::new(random, head.operators, head.rides, &[]);
+            stream.call(draft.build(START));
+            let parts = whole_parts(random, head);
+            assert_eq!(send(random, stream, head, parts, &[message]), [number]);
+        }
+        for (&(head, places, number), part) in SHORT_PRESENCE.iter().flat_map(|short| (0..3).map(move |i| (short, i))) {
+            stream.call(draft.build(START));
+            let mut lengths = random.lengths(head);
+            shorten_to(&mut lengths, part, places);
+            let kind = random.pick(&[WITHDRAWAL, OPERATOR_OFF, RIDE_OUT]);
+            let message = Message { kind, operator: 0, ride: 0, revision: 0, stamp: 9 };
+            assert_eq!(send(random, stream, head, Framed::kept(lengths), &[message]), [number]);
+        }
+    }
+}
+
 // Large boards
 
 /// Tables of 200 by 60, and a few near that.
@@ -930,10 +1176,15 @@ fn large_calls(random: &mut Random, stream: &mut Stream) {
         stream.call(draft.build(random.pick(&[1, 4_294_967_295])));
         let mean_alpha = (pairs.len() / operators as usize) as u16;
         let mean_beta = (pairs.len() / rides as usize) as u16;
-        for _ in 0..12 {
+        for turn in 0..12 {
             let alpha = large_limit(random, rides, [1, mean_alpha, mean_alpha.saturating_sub(2)]);
             let beta = large_limit(random, operators, [1, mean_beta, mean_beta.saturating_sub(5)]);
-            let query = kept_query(random, draft.head, alpha, beta);
+            let mut query = kept_query(random, draft.head, alpha, beta);
+            // Everybody for three turns, then others three times; the words stay from call to call.
+            if let (3 | 6 | 9, Call::Query { presence, .. }) = (turn, &mut query) {
+                let words = presence_of(random, draft.head.nodes());
+                *presence = Part::changed(presence.len, 0, &words);
+            }
             stream.call(query);
             let words = marks_of(random, draft.head.nodes());
             let marks = Part::given(random.length(draft.head.nodes()), &words, 5);
@@ -948,7 +1199,7 @@ fn large_calls(random: &mut Random, stream: &mut Stream) {
 /// Pair arrays of the largest size that are wrong at one place only, and parts that are short by one place.
 fn large_refusals(random: &mut Random, stream: &mut Stream) {
     let pairs = random.table_of(200, 60, 900);
-    for damage in 0..9 {
+    for damage in 0..12 {
         let mut draft = Draft::new(random, 200, 60, &pairs);
         match damage {
             0 => draft.words.operators[899] = 200,
@@ -959,6 +1210,9 @@ fn large_refusals(random: &mut Random, stream: &mut Stream) {
             5 => draft.lengths.revisions = 11_999,
             6 => draft.lengths.index = 15_599,
             7 => draft.head.pairs = 12_001,
+            8 => draft.lengths.presence_stamps = 259,
+            9 => draft.lengths.presence_revisions = 259,
+            10 => draft.lengths.presence = 259,
             _ => {
                 draft.words.operators[899] = draft.words.operators[898];
                 draft.words.rides[899] = draft.words.rides[898];
@@ -1056,7 +1310,8 @@ fn calls(random: &mut Random) -> Stream {
     sample_calls(random, &mut stream);
     samples_from_0(random, &mut stream);
     sample_revisions(random, &mut stream);
-    for _ in 0..2_600 {
+    sample_presence(random, &mut stream);
+    for _ in 0..2_100 {
         let case = build_case(random);
         stream.call(case);
         let case = query_case(random);
@@ -1071,8 +1326,11 @@ fn calls(random: &mut Random) -> Stream {
     tally.covers("build", &[0, 1, 2, 3, 4, 5, 9], 60);
     tally.covers("query", &[0, 1, 2, 3], 60);
     tally.covers("peel", &[0, 1, 2, 3, 4, 5, 12], 60);
-    tally.covers_zeros("query", &ZEROS, 30);
-    tally.covers_zeros("peel", &ZEROS[..6], 30);
+    tally.covers_kinds("query", &ZEROS, 30);
+    tally.covers_kinds("peel", &ZEROS[..6], 30);
+    tally.covers_kinds("query", &ABSENCES[..5], 30);
+    tally.covers_kinds("peel", &ABSENCES[..4], 30);
+    tally.covers_kinds("peel", &ABSENCES[5..], 30);
     stream
 }
 
@@ -1080,13 +1338,14 @@ fn deliveries(random: &mut Random) -> Stream {
     let mut stream = Stream::new();
     sample_deliveries(random, &mut stream);
     sample_corrections(random, &mut stream);
-    for _ in 0..1_500 {
+    sample_turns(random, &mut stream);
+    for _ in 0..1_250 {
         let case = message_case(random);
         stream.call(case);
         let case = messages_case(random);
         stream.call(case);
     }
-    for _ in 0..900 {
+    for _ in 0..720 {
         delivery_case(random, &mut stream);
     }
     large_deliveries(random, &mut stream);
@@ -1095,9 +1354,11 @@ fn deliveries(random: &mut Random) -> Stream {
     tally.covers("build", &[0], 30);
     tally.covers("query", &[0], 30);
     tally.covers("peel", &[0], 30);
-    tally.covers("message", &[0, 1, 2, 3, 4, 5, 6, 7, 8, 9, 10, 14], 30);
+    tally.covers("message", &[0, 1, 2, 3, 4, 5, 6, 7, 8, 9, 10, 14, 15], 30);
     tally.covers("message list", &[0, 1, 2, 3, 4, 5, 6], 30);
-    tally.covers("message of a list", &[0, 7, 8, 9, 10, 14], 30);
+    tally.covers("message of a list", &[0, 7, 8, 9, 10, 14, 15], 30);
+    tally.covers_kinds("message", &TAKEN, 30);
+    tally.covers_kinds("message of a list", &TAKEN[..6], 30);
     stream
 }
 
@@ -1127,7 +1388,7 @@ fn covers(random: &mut Random) -> (Vec<u8>, Vec<u8>, Tally) {
         output
     });
     tally.covers("cover", &[0, 1, 2, 4, 5, 13], 30);
-    tally.covers_zeros("cover", &ZEROS[..6], 15);
+    tally.covers_kinds("cover", &ZEROS[..6], 15);
     (stream, text, tally)
 }
 

@@ -1,4 +1,4 @@
--- `degrees::tabulate` meets its contract: the tables hold the clearances, and the degrees are read off them. Assumes nothing.
+-- `degrees::tabulate` meets its contract: the tables hold the pairs that count, and the degrees are read off them. Assumes nothing.
 use borrow.Author.Needs.{needs}
 use Rattle.tables.proofs.Held.{tables-held}
 use Rattle.degrees.proofs.tabulate.Statement.{statement}

@@ -15,7 +15,7 @@ slice-aggregate-fill-over-3 : tie.Need-slice-aggregate-fill-over-3
 slice-aggregate-fill-over-3 c = search needs
 
 fill-over-requires : tie.Need-fill-over-requires
-fill-over-requires c κs = let s = c .before .before .before .before .before .before .before in (s .pre .0, zero-tables, refl, s .pre .1)
+fill-over-requires c κs = let p = c .before .before .before .before .before .before .before .before .pre in (p .0, p .1, zero-tables, refl, p .2)
 
 same-length : tie.Need-same-length
 same-length c = search needs

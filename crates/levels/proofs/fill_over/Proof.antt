@@ -1,4 +1,4 @@
--- `levels::fill_over` meets its contract: the tables hold the clearances, and every row is filled from them. Assumes nothing.
+-- `levels::fill_over` meets its contract: the tables hold the pairs that count, and every row is filled from them. Assumes nothing.
 use borrow.Author.Needs.{needs}
 use mathlib.Core.List.{List}
 use mathlib.Core.Path.{ap, _∙_}
@@ -35,10 +35,10 @@ part-fill-rows-end : tie.Need-part-fill-rows-end
 part-fill-rows-end c = search needs
 
 fill-rows-requires : tie.Need-fill-rows-requires
-fill-rows-requires c κs = let s = c .before .before .before .before .before .before .before .before .before .before .before .before .before .before .before .before .before .before .before .before in
+fill-rows-requires c κs = let s = c .before .before .before .before .before .before .before .before .before .before .before .before .before .before .before .before .before .before .before .before .before in
     let a = s .args in
     let p = s .pre in
-    ((c .before .before .before .before .before .before .before .before .before .tabulate .ensures .1, first-length (a .row .now) (a .head .operators + a .head .rides) (omega (arith, p .2, p .0 .few-operators, p .0 .few-rides)), p .3), c .before .before .before .before .largest-of .ensures)
+    ((c .before .before .before .before .before .before .before .before .before .tabulate .ensures .1, first-length (a .row .now) (a .head .operators + a .head .rides) (omega (arith, p .3, p .0 .few-operators, p .0 .few-rides)), p .4), c .before .before .before .before .largest-of .ensures)
 
 same-length : tie.Need-same-length
 same-length c = search needs
@@ -53,7 +53,7 @@ same-length-4 : tie.Need-same-length-4
 same-length-4 c = search needs
 
 returns : tie.Need-returns
-returns c = let a = c .before .before .before .before .before .before .before .before .before .before .before .before .before .before .before .before .before .before .before .before .before .before .before .before .before .args in
+returns c = let a = c .before .before .before .before .before .before .before .before .before .before .before .before .before .before .before .before .before .before .before .before .before .before .before .before .before .before .args in
     let v = c .before .before .before .before .fill-rows .ensures in
     let e = held-index _ _ _ (c .before .before .before .before .before .before .before .before .before .before .before .before .before .before .tabulate .ensures .0) in
     (v .0 ∙ ap (λ (z : List ℕ). over z (a .index .now)) e, v .1 ∙ ap (λ (z : List ℕ). differing (index-places (a .head)) (a .index .now) z) e)

@@ -57,7 +57,7 @@ shared-slice-read-if1 c = let s = c .before .before .before .before .before .bef
 returns : tie.Need-returns Inv-loop μ-loop
 returns c = let a = c .before .before .before .before .before .before .before .before .before .before .before .args in
     let l = c .before .before .before .before .before .before .loop in
-    λ revisions index. one-unstamped (lent (a .head) (a .operators .now) (a .rides .now) (a .stamps .now) revisions index) (l .i) (omega arith) (rw (c .before .before .place .ensures) at (c .if1 .taken))
+    λ revisions index stamps′ revisions′ presence. one-unstamped (lent (a .head) (a .operators .now) (a .rides .now) (a .stamps .now) revisions index stamps′ revisions′ presence) (l .i) (omega arith) (rw (c .before .before .place .ensures) at (c .if1 .taken))
 
 add-i : tie.Need-add-i Inv-loop μ-loop
 add-i c = search needs
@@ -71,7 +71,7 @@ loop-again c = let l = c .before .before .before .before .before .before .loop i
 
 returns-2 : tie.Need-returns-2 Inv-loop μ-loop
 returns-2 c = let a = c .before .before .before .before .before .before .args in
-    λ revisions index. all-stamped (lent (a .head) (a .operators .now) (a .rides .now) (a .stamps .now) revisions index) (λ i h. c .before .loop .inv .1 i (omega arith))
+    λ revisions index stamps′ revisions′ presence. all-stamped (lent (a .head) (a .operators .now) (a .rides .now) (a .stamps .now) revisions index stamps′ revisions′ presence) (λ i h. c .before .loop .inv .1 i (omega arith))
 
 pub missing-spec : {M : Type 1} → statement M
 missing-spec =

@@ -1,16 +1,14 @@
 -- `tables::fill` meets its contract. The loop's invariant: both tables hold those of the first k pairs that count. Assumes nothing.
 use borrow.Author.Needs.{needs}
-use mathlib.Core.Path.{_≡_, refl, subst}
-use Prim.Native.Nat.{ℕ, _≤_, _-_}
+use mathlib.Core.Path.{_≡_, refl}
+use Prim.Native.Nat.{_≤_, _-_}
 use native.Mathlib.Omega.{arith}
 use lib.ListN.{length, length-set}
+use Rattle.pairs.proofs.Order.{accepted-range}
 use Rattle.tables.specs.Table.{Table}
 use Rattle.tables.proofs.Held.{passed, both, table-none, table-next, pair-small, tables-filled}
 use Rattle.tables.proofs.fill.Statement.{statement}
 use Rattle.tables.proofs.fill.Tie as tie
-use Rattle.tables.proofs.fill.Reads as reads
-use Rattle.tables.proofs.fill.Lts as lts
-use Rattle.tables.proofs.counts.Reads as counts-reads
 
 abbrev Inv-loop : tie.InvT-loop
 Inv-loop operators rides presence by-operator₀ by-ride₀ n pairs k₀ by-operator by-ride k =
@@ -30,7 +28,13 @@ cast-pairs : tie.Need-cast-pairs Inv-loop μ-loop
 cast-pairs c = search needs
 
 loop-holds : tie.Need-loop-holds Inv-loop μ-loop
-loop-holds c = search needs
+loop-holds c = let z = c .before .before .before .before .before .before .before .pre .2 in (
+  omega arith,
+  refl,
+  refl,
+  table-none _ _ _ 200 60 _ (omega arith) (z .by-operator),
+  table-none _ _ _ 60 200 _ (omega arith) (z .by-ride),
+)
 
 mul-u : tie.Need-mul-u Inv-loop μ-loop
 mul-u c = search needs
@@ -39,7 +43,7 @@ shared-slice-read-u : tie.Need-shared-slice-read-u Inv-loop μ-loop
 shared-slice-read-u c = search needs
 
 cast-u : tie.Need-cast-u Inv-loop μ-loop
-cast-u c = search needs
+cast-u c = omega (arith, c .shared-slice-known4 .given (c .before .before .loop .k))
 
 mul-v : tie.Need-mul-v Inv-loop μ-loop
 mul-v c = search needs
@@ -48,43 +52,65 @@ shared-slice-read-v : tie.Need-shared-slice-read-v Inv-loop μ-loop
 shared-slice-read-v c = search needs
 
 cast-v : tie.Need-cast-v Inv-loop μ-loop
-cast-v c = search needs
+cast-v c = omega (arith, c .shared-slice-known5 .given (c .before .before .before .loop .k))
 
 mul-counts : tie.Need-mul-counts Inv-loop μ-loop
-mul-counts c = search needs
+mul-counts c = let t = c .before .before .before in
+    let s = t .before .before .before .before .before .before .before .before in
+    omega (arith, accepted-range _ _ _ (s .pre .0) (t .loop .k) (omega arith))
 
 shared-slice-read-counts : tie.Need-shared-slice-read-counts Inv-loop μ-loop
-shared-slice-read-counts c = search needs
+shared-slice-read-counts c = let t = c .before .before .before .before in
+    let s = t .before .before .before .before .before .before .before .before in
+    omega (arith, accepted-range _ _ _ (s .pre .0) (t .loop .k) (omega arith))
 
 add-counts : tie.Need-add-counts Inv-loop μ-loop
-add-counts c = search needs
+add-counts c = let t = c .before .before .before .before in
+    let s = t .before .before .before .before .before .before .before .before in
+    omega (arith, accepted-range _ _ _ (s .pre .0) (t .loop .k) (omega arith))
 
 mul-counts-2 : tie.Need-mul-counts-2 Inv-loop μ-loop
-mul-counts-2 c = search needs
+mul-counts-2 c = let t = c .before .before .before .before in
+    let s = t .before .before .before .before .before .before .before .before in
+    omega (arith, accepted-range _ _ _ (s .pre .0) (t .loop .k) (omega arith))
 
 shared-slice-read-counts-2 : tie.Need-shared-slice-read-counts-2 Inv-loop μ-loop
-shared-slice-read-counts-2 c = search needs
+shared-slice-read-counts-2 c = let t = c .before .before .before .before .before in
+    let s = t .before .before .before .before .before .before .before .before in
+    omega (arith, accepted-range _ _ _ (s .pre .0) (t .loop .k) (omega arith))
 
 counts-requires : tie.Need-counts-requires Inv-loop μ-loop
 counts-requires c κs = search needs
 
 mul-by-operator : tie.Need-mul-by-operator Inv-loop μ-loop
-mul-by-operator c = search needs
+mul-by-operator c = let t = c .before .before .before .before .before .before in
+    let s = t .before .before .before .before .before .before .before .before in
+    omega (arith, accepted-range _ _ _ (s .pre .0) (t .loop .k) (omega arith))
 
 add-by-operator : tie.Need-add-by-operator Inv-loop μ-loop
-add-by-operator c = search needs
+add-by-operator c = let t = c .before .before .before .before .before .before in
+    let s = t .before .before .before .before .before .before .before .before in
+    omega (arith, accepted-range _ _ _ (s .pre .0) (t .loop .k) (omega arith))
 
 slice-write-by-operator : tie.Need-slice-write-by-operator Inv-loop μ-loop
-slice-write-by-operator c = search needs
+slice-write-by-operator c = let t = c .before .before .before .before .before .before in
+    let s = t .before .before .before .before .before .before .before .before in
+    omega (arith, accepted-range _ _ _ (s .pre .0) (t .loop .k) (omega arith))
 
 mul-by-ride : tie.Need-mul-by-ride Inv-loop μ-loop
-mul-by-ride c = search needs
+mul-by-ride c = let t = c .before .before .before .before .before .before in
+    let s = t .before .before .before .before .before .before .before .before in
+    omega (arith, accepted-range _ _ _ (s .pre .0) (t .loop .k) (omega arith))
 
 add-by-ride : tie.Need-add-by-ride Inv-loop μ-loop
-add-by-ride c = search needs
+add-by-ride c = let t = c .before .before .before .before .before .before in
+    let s = t .before .before .before .before .before .before .before .before in
+    omega (arith, accepted-range _ _ _ (s .pre .0) (t .loop .k) (omega arith))
 
 slice-write-by-ride : tie.Need-slice-write-by-ride Inv-loop μ-loop
-slice-write-by-ride c = search needs
+slice-write-by-ride c = let t = c .before .before .before .before .before .before in
+    let s = t .before .before .before .before .before .before .before .before in
+    omega (arith, accepted-range _ _ _ (s .pre .0) (t .loop .k) (omega arith))
 
 add-k : tie.Need-add-k Inv-loop μ-loop
 add-k c = search needs
@@ -93,7 +119,16 @@ loop-less : tie.Need-loop-less Inv-loop μ-loop
 loop-less c = search needs
 
 loop-again : tie.Need-loop-again Inv-loop μ-loop
-loop-again c = search needs
+loop-again c = let t = c .before .before .before .before .before .before in
+    let s = t .before .before .before .before .before .before .before .before in
+    let r = pair-small _ _ _ (s .pre .0) (t .loop .k) (omega arith) in
+    let l = t .loop in (
+      omega arith,
+      simp length-set (l .inv .1),
+      simp length-set (l .inv .2),
+      rw (c .counts .ensures) (table-next _ _ _ 200 60 (l .k) (l .by-operator) (l .inv .3) (r .0) (r .1)),
+      rw (c .counts .ensures) (table-next _ _ _ 60 200 (l .k) (l .by-ride) (l .inv .4) (r .1) (r .0)),
+    )
 
 same-length : tie.Need-same-length Inv-loop μ-loop
 same-length c = search needs
@@ -102,7 +137,10 @@ same-length-2 : tie.Need-same-length-2 Inv-loop μ-loop
 same-length-2 c = search needs
 
 returns : tie.Need-returns Inv-loop μ-loop
-returns c = search needs
+returns c = let l = c .before .loop in
+    let s = c .before .before .before .before .before .before .before .before .before in
+    let e : l .k ≡ s .args .head .pairs = omega arith in
+    tables-filled _ _ _ (s .args .presence .now) (s .pre .0) (l .by-operator) (l .by-ride) (rw e at (l .inv .3)) (rw e at (l .inv .4))
 
 pub fill-spec : {M : Type 1} → statement M
 fill-spec =
