@@ -30,8 +30,8 @@ impl Numbers {
 }
 
 /// One size of board: its pairs at random, and messages that withdraw a listed pair and grant an unlisted one in turn. Four
-/// messages share a stamp, with revisions from 0 to 3. Further messages that a tenth of the operators are off and a tenth
-/// of the rides out.
+/// messages share a stamp, with revisions from 0 to 3. Those of `leaving` set a tenth of the operators off and a tenth of the
+/// rides out.
 struct Case {
     operators: u16,
     rides: u16,

@@ -58,11 +58,10 @@ fn preview(head: Head, parts: Parts, one: Message, spare_head: &mut Head, spare:
     .map(|_| ())
 }
 
-/// Messages of the kinds 3 to 6, at two stamps: taken one after another.
-fn leaving_and_coming(at: u32) -> [Message; 4] {
-    let leaving = [Message::operator_off(199, at), Message::ride_out(59, at)];
-    let coming = [Message::operator_on(199, at + 1), Message::ride_in(59, at + 1)];
-    [leaving[0], leaving[1], coming[0], coming[1]]
+/// A message of each of the kinds 3 to 6, off and out before on and in.
+fn leaving_and_coming(stamp: u32) -> [Message; 4] {
+    let (off, out) = (Message::operator_off(199, stamp), Message::ride_out(59, stamp));
+    [off, out, Message::operator_on(199, stamp + 1), Message::ride_in(59, stamp + 1)]
 }
 
 /// The deepest stack of each call, over boards with few and many pairs.

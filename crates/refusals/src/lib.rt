@@ -51,7 +51,10 @@ pub fn short_board(
     if presence_revisions.len() < n + m {
         return true;
     }
-    presence.len() < n + m
+    if presence.len() < n + m {
+        return true;
+    }
+    false
 }
 
 // 1 to 5 of a pair table; short tells whether a lent part is too short.

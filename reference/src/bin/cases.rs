@@ -356,8 +356,7 @@ impl Draft {
     }
 
     fn parts(&self) -> Framed {
-        let lengths =
-            self.lengths.zip(PLACES).map(|(length, most)| length.min(most), |(length, most)| length.min(most));
+        let lengths = self.lengths.zip(PLACES).map_all(|(length, most)| length.min(most));
         self.words.view().zip(lengths).map(
             |(words, length)| Part::given(length, words, self.others),
             |(stamps, length)| Part::given(length, stamps, self.others as u32 * 65_537),

@@ -1,7 +1,7 @@
 -- `refusals::short_board` meets its contract: 3 of a board, part by part. Assumes nothing.
 use borrow.Author.Needs.{needs}
 use native.Mathlib.Omega.{arith}
-use Rattle.model.specs.Layout.{Operators, Rides, Stamps, Revisions, Index}
+use Rattle.model.specs.Layout.{Operators, Rides, Stamps, Revisions, Index, PresenceStamps, PresenceRevisions, Presence}
 use Rattle.model.proofs.Parts.{by-part}
 use Rattle.pairs.proofs.Place.{product-fits}
 use Rattle.refusals.proofs.Chain.{short-at, short-nowhere}
@@ -38,8 +38,26 @@ mul-if5 c = let a = c .before .before .before .before .before .before .args in o
 returns-5 : tie.Need-returns-5
 returns-5 c = short-at _ Index (omega arith)
 
+add-if6 : tie.Need-add-if6
+add-if6 c = search needs
+
 returns-6 : tie.Need-returns-6
-returns-6 c = short-nowhere _ (by-part _ (omega arith) (omega arith) (omega arith) (omega arith) (omega arith))
+returns-6 c = short-at _ PresenceStamps (omega arith)
+
+add-if7 : tie.Need-add-if7
+add-if7 c = search needs
+
+returns-7 : tie.Need-returns-7
+returns-7 c = short-at _ PresenceRevisions (omega arith)
+
+add-if8 : tie.Need-add-if8
+add-if8 c = search needs
+
+returns-8 : tie.Need-returns-8
+returns-8 c = short-at _ Presence (omega arith)
+
+returns-9 : tie.Need-returns-9
+returns-9 c = short-nowhere _ (by-part _ (omega arith) (omega arith) (omega arith) (omega arith) (omega arith) (omega arith) (omega arith) (omega arith))
 
 pub short-board-spec : {M : Type 1} → statement M
 short-board-spec =
@@ -55,4 +73,10 @@ short-board-spec =
     add-if5
     mul-if5
     returns-5
-    returns-6)
+    add-if6
+    returns-6
+    add-if7
+    returns-7
+    add-if8
+    returns-8
+    returns-9)
