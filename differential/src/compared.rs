@@ -4,7 +4,7 @@ use crate::numbers::Numbers;
 use differential::guarded::{End, Region};
 use differential::Library;
 use reference::frames::{Board, Reference};
-use reference::{Answer, Counts, Head, Message, Parts, Peeled, Slices, Vectors, Views};
+use reference::{Answer, Counts, Head, Lengths, Message, Parts, Peeled, Slices, Vectors, Views, PRESENT};
 use std::collections::BTreeMap;
 use std::fmt::Debug;
 use std::ops::Deref;
@@ -19,54 +19,45 @@ pub struct Lent {
 impl Lent {
     /// The board alone: each part to the places that it needs.
     pub fn board(&self) -> Lent {
-        let needed = self.head.lengths();
-        let Parts { operators, rides, stamps, revisions, index } = &self.parts;
-        let parts = Parts {
-            operators: operators[..needed.operators].to_vec(),
-            rides: rides[..needed.rides].to_vec(),
-            stamps: stamps[..needed.stamps].to_vec(),
-            revisions: revisions[..needed.revisions].to_vec(),
-            index: index[..needed.index].to_vec(),
-        };
-        Lent { head: self.head, parts }
+        Lent { head: self.head, parts: self.parts.first(self.head.lengths()).copy() }
     }
 }
 
-/// The most places that are lent of a part, longer than any board needs.
-pub const PAIRS_MOST: usize = 12_100;
-pub const INDEX_MOST: usize = 15_700;
+/// The most places that are lent of a part, of the marks and of a list, longer than any board needs.
+pub const MOST: Lengths = Parts {
+    operators: 12_100,
+    rides: 12_100,
+    stamps: 12_100,
+    revisions: 12_100,
+    index: 15_700,
+    presence_stamps: 400,
+    presence_revisions: 400,
+    presence: 400,
+};
 pub const MARKS_MOST: usize = 400;
 pub const LIST_MOST: usize = 400;
 
-/// The numbers that each call can give: document 01's, with document 02's 14 and without its 11.
+/// The numbers that each call can give: document 01's, with document 02's 14 and 15 and without its 11.
 const BUILD_NUMBERS: &[u16] = &[0, 1, 2, 3, 4, 5, 9];
 const QUERY_NUMBERS: &[u16] = &[0, 1, 2, 3];
 const PEEL_NUMBERS: &[u16] = &[0, 1, 2, 3, 4, 5, 12];
-const MESSAGE_NUMBERS: &[u16] = &[0, 1, 2, 3, 4, 5, 6, 7, 8, 9, 10, 14];
+const MESSAGE_NUMBERS: &[u16] = &[0, 1, 2, 3, 4, 5, 6, 7, 8, 9, 10, 14, 15];
 const LIST_NUMBERS: &[u16] = &[0, 1, 2, 3, 4, 5, 6];
 /// Those of a message of a list that isn't refused.
-const LISTED_NUMBERS: &[u16] = &[0, 7, 8, 9, 10, 14];
+const LISTED_NUMBERS: &[u16] = &[0, 7, 8, 9, 10, 14, 15];
 
-/// How often each number was given, by number.
+/// How often each number was given, or each kind taken, by number or kind.
 pub type Given = BTreeMap<u16, u64>;
 
 /// Guarded memory for the parts of a board.
 type PartRegions = Parts<Region<u16>, Region<u32>>;
 
 fn part_regions() -> PartRegions {
-    Parts {
-        operators: Region::new(PAIRS_MOST),
-        rides: Region::new(PAIRS_MOST),
-        stamps: Region::new(PAIRS_MOST),
-        revisions: Region::new(PAIRS_MOST),
-        index: Region::new(INDEX_MOST),
-    }
+    MOST.map(Region::new, Region::new)
 }
 
 fn are_parts_intact(regions: &PartRegions) -> bool {
-    let Parts { operators, rides, stamps, revisions, index } = regions;
-    let pairs = operators.is_intact() && rides.is_intact();
-    pairs && stamps.is_intact() && revisions.is_intact() && index.is_intact()
+    regions.each_ref().map(Region::is_intact, Region::is_intact).list() == [true; 8]
 }
 
 /// Guarded memory for everything that a call is lent.
@@ -101,26 +92,25 @@ fn end(ends: &mut Numbers) -> End {
     }
 }
 
+/// The regions with the words of each part, and an end for each.
+type Placed<'a> = Parts<((&'a mut Region<u16>, &'a Vec<u16>), End), ((&'a mut Region<u32>, &'a Vec<u32>), End)>;
+
+fn placed<'a>(regions: &'a mut PartRegions, words: &'a Vectors, ends: &mut Numbers) -> Placed<'a> {
+    regions.each_mut().zip(words.each_ref()).zip(MOST.map_all(|_| end(ends)))
+}
+
 /// Lends the words of each part, to be written.
-fn lend_parts<'a>(regions: &'a mut PartRegions, words: &Vectors, ends: &mut Numbers) -> Slices<'a> {
-    Parts {
-        operators: regions.operators.lend_mut(&words.operators, end(ends)),
-        rides: regions.rides.lend_mut(&words.rides, end(ends)),
-        stamps: regions.stamps.lend_mut(&words.stamps, end(ends)),
-        revisions: regions.revisions.lend_mut(&words.revisions, end(ends)),
-        index: regions.index.lend_mut(&words.index, end(ends)),
-    }
+fn lend_parts<'a>(regions: &'a mut PartRegions, words: &'a Vectors, ends: &mut Numbers) -> Slices<'a> {
+    placed(regions, words, ends).map(
+        |((region, words), end)| region.lend_mut(words, end),
+        |((region, stamps), end)| region.lend_mut(stamps, end),
+    )
 }
 
 /// Lends the words of each part, to be read.
-fn view_parts<'a>(regions: &'a mut PartRegions, words: &Vectors, ends: &mut Numbers) -> Views<'a> {
-    Parts {
-        operators: regions.operators.lend(&words.operators, end(ends)),
-        rides: regions.rides.lend(&words.rides, end(ends)),
-        stamps: regions.stamps.lend(&words.stamps, end(ends)),
-        revisions: regions.revisions.lend(&words.revisions, end(ends)),
-        index: regions.index.lend(&words.index, end(ends)),
-    }
+fn view_parts<'a>(regions: &'a mut PartRegions, words: &'a Vectors, ends: &mut Numbers) -> Views<'a> {
+    placed(regions, words, ends)
+        .map(|((region, words), end)| region.lend(words, end), |((region, stamps), end)| region.lend(stamps, end))
 }
 
 /// What was compared so far.
@@ -137,6 +127,8 @@ pub struct Totals {
     /// The numbers of the messages of lists, and of previews.
     pub listed_numbers: Given,
     pub preview_numbers: Given,
+    /// The taken messages of message calls and lists, by kind.
+    pub taken_kinds: Given,
     /// Previews whose message was then sent to the board.
     pub sent: u64,
     /// Previews whose spare memory was the board of the calls after them.
@@ -146,6 +138,8 @@ pub struct Totals {
     pub alpha_zero: u64,
     pub beta_zero: u64,
     pub both_zero: u64,
+    /// Accepted queries and peels with somebody off or out.
+    pub absent: u64,
     pub words: u64,
     pub largest: u64,
     pub deliveries: u64,
@@ -164,8 +158,16 @@ impl Totals {
         self.check_number(call, can_give, code);
     }
 
+    /// Counts a message that got a number, by its kind where it is taken.
+    fn taken(&mut self, one: Message, code: u16) {
+        if code == 0 {
+            *self.taken_kinds.entry(one.kind).or_default() += 1;
+        }
+    }
+
     /// Counts the number of a message of a list.
-    fn listed_number(&mut self, code: u16) {
+    fn listed_number(&mut self, one: Message, code: u16) {
+        self.taken(one, code);
         *self.listed_numbers.entry(code).or_default() += 1;
         self.check_number("message of a list", LISTED_NUMBERS, code);
     }
@@ -177,14 +179,15 @@ impl Totals {
         }
     }
 
-    /// Counts the limits of an accepted query or peel that have a 0 among them.
-    fn limits(&mut self, code: u16, alpha: u16, beta: u16) {
-        match (code, alpha, beta) {
-            (0, 0, 0) => self.both_zero += 1,
-            (0, 0, _) => self.alpha_zero += 1,
-            (0, _, 0) => self.beta_zero += 1,
+    /// Counts an accepted query or peel: limits that have a 0 among them, and somebody off or out.
+    fn accepted(&mut self, head: Head, alpha: u16, beta: u16, presence: &[u16]) {
+        match (alpha, beta) {
+            (0, 0) => self.both_zero += 1,
+            (0, _) => self.alpha_zero += 1,
+            (_, 0) => self.beta_zero += 1,
             _ => {}
         }
+        self.absent += presence[..head.nodes()].iter().any(|word| *word != PRESENT) as u64;
     }
 
     fn same<T: PartialEq + Debug>(&mut self, what: &str, library: T, reference: T) {
@@ -206,12 +209,16 @@ impl Totals {
         A: Deref<Target = [u16]>,
         B: Deref<Target = [u32]>,
     {
-        let Parts { operators, rides, stamps, revisions, index } = library;
+        let Parts { operators, rides, stamps, revisions, index, presence_stamps, presence_revisions, presence } =
+            library;
         self.same_words(call, "operators", operators, &reference.operators);
         self.same_words(call, "rides", rides, &reference.rides);
         self.same_words(call, "stamps", stamps, &reference.stamps);
         self.same_words(call, "revisions", revisions, &reference.revisions);
         self.same_words(call, "index", index, &reference.index);
+        self.same_words(call, "presence stamps", presence_stamps, &reference.presence_stamps);
+        self.same_words(call, "presence revisions", presence_revisions, &reference.presence_revisions);
+        self.same_words(call, "presence", presence, &reference.presence);
     }
 
     /// A preview that was not refused, and its message sent to the board: the answers, and the spare board and the board.
@@ -261,39 +268,47 @@ impl<B: Library> Compared<B> {
     }
 
     pub fn query(&mut self, lent: &Lent, alpha: u16, beta: u16, marks: &mut [u16]) -> Counts {
-        let before = marks.to_vec();
-        let expected = Reference.query(lent.head, &lent.parts.index, alpha, beta, marks);
+        let (before, head, words) = (marks.to_vec(), lent.head, &lent.parts);
+        let expected = Reference.query(head, &words.index, &words.presence, alpha, beta, marks);
         let Compared { library, regions, ends, totals } = self;
-        let index = regions.parts.index.lend(&lent.parts.index, end(ends));
+        let index = regions.parts.index.lend(&words.index, end(ends));
+        let presence = regions.parts.presence.lend(&words.presence, end(ends));
         let left = regions.marks.lend_mut(&before, end(ends));
-        let found = library.query(lent.head, index, alpha, beta, left);
+        let found = library.query(head, index, presence, alpha, beta, left);
         totals.queries += 1;
-        totals.number("query", QUERY_NUMBERS, lent.head, found.code);
-        totals.limits(found.code, alpha, beta);
+        totals.number("query", QUERY_NUMBERS, head, found.code);
         totals.same("query", found, expected);
-        totals.same_words("query", "index", index, &lent.parts.index);
+        totals.same_words("query", "index", index, &words.index);
+        totals.same_words("query", "presence", presence, &words.presence);
         totals.same_words("query", "marks", left, marks);
+        if expected.code == 0 {
+            totals.accepted(head, alpha, beta, &words.presence);
+        }
         self.check_filled();
         expected
     }
 
     pub fn peel(&mut self, lent: &Lent, marks: &mut [u16], alpha: u16, beta: u16, steps: u16) -> Peeled {
-        let before = marks.to_vec();
-        let expected = Reference.peel(lent.head, &lent.parts.operators, &lent.parts.rides, marks, alpha, beta, steps);
+        let (before, head, words) = (marks.to_vec(), lent.head, &lent.parts);
+        let expected = Reference.peel(head, &words.operators, &words.rides, &words.presence, marks, alpha, beta, steps);
         let Compared { library, regions, ends, totals } = self;
-        let operators = regions.parts.operators.lend(&lent.parts.operators, end(ends));
-        let rides = regions.parts.rides.lend(&lent.parts.rides, end(ends));
+        let operators = regions.parts.operators.lend(&words.operators, end(ends));
+        let rides = regions.parts.rides.lend(&words.rides, end(ends));
+        let presence = regions.parts.presence.lend(&words.presence, end(ends));
         let left = regions.marks.lend_mut(&before, end(ends));
-        let found = library.peel(lent.head, operators, rides, left, alpha, beta, steps);
+        let found = library.peel(head, operators, rides, presence, left, alpha, beta, steps);
         totals.peels += 1;
-        totals.number("peel", PEEL_NUMBERS, lent.head, found.code);
-        totals.limits(found.code, alpha, beta);
+        totals.number("peel", PEEL_NUMBERS, head, found.code);
         totals.settled += (found.code == 0 && found.settled == 1) as u64;
         totals.unsettled += (found.code == 0 && found.settled == 0) as u64;
         totals.same("peel", found, expected);
-        totals.same_words("peel", "operators", operators, &lent.parts.operators);
-        totals.same_words("peel", "rides", rides, &lent.parts.rides);
+        totals.same_words("peel", "operators", operators, &words.operators);
+        totals.same_words("peel", "rides", rides, &words.rides);
+        totals.same_words("peel", "presence", presence, &words.presence);
         totals.same_words("peel", "marks", left, marks);
+        if expected.code == 0 {
+            totals.accepted(head, alpha, beta, &words.presence);
+        }
         self.check_filled();
         expected
     }
@@ -307,6 +322,7 @@ impl<B: Library> Compared<B> {
         let found = library.message(&mut head[0], &mut parts, one);
         totals.messages += 1;
         totals.number("message", MESSAGE_NUMBERS, lent.head, found.code);
+        totals.taken(one, found.code);
         totals.same("message", found, expected);
         totals.same_words("message", "head", head, &[lent.head]);
         totals.same_parts("message", &parts, &lent.parts);
@@ -327,7 +343,7 @@ impl<B: Library> Compared<B> {
         totals.listed_messages += list.len() as u64;
         totals.number("message list", LIST_NUMBERS, lent.head, found);
         if found == 0 {
-            left.iter().take(list.len()).for_each(|code| totals.listed_number(*code));
+            list.iter().zip(&*left).for_each(|(one, code)| totals.listed_number(*one, *code));
         }
         totals.same("message list", found, expected);
         totals.same_words("message list", "head", head, &[lent.head]);
@@ -362,7 +378,7 @@ impl<B: Library> Compared<B> {
 mod tests {
     use super::*;
 
-    /// 14 is for messages and previews alone, 11 and 13 are for no call.
+    /// 14 and 15 are for messages and previews alone, 11 and 13 are for no call.
     #[test]
     fn a_number_that_a_call_cannot_give_is_a_difference() {
         let head = Head { operators: 4, rides: 3, pairs: 7 };
@@ -370,9 +386,9 @@ mod tests {
             (BUILD_NUMBERS, 7),
             (QUERY_NUMBERS, 4),
             (PEEL_NUMBERS, 7),
-            (MESSAGE_NUMBERS, 12),
+            (MESSAGE_NUMBERS, 13),
             (LIST_NUMBERS, 7),
-            (LISTED_NUMBERS, 6),
+            (LISTED_NUMBERS, 7),
         ] {
             let mut totals = Totals::default();
             (0..=20).for_each(|code| totals.number("call", can_give, head, code));
@@ -387,8 +403,7 @@ mod tests {
     fn a_preview_that_is_not_what_the_message_does_is_a_difference() {
         let taken = Answer { code: 0, differ: 5 };
         let head = Head { operators: 2, rides: 1, pairs: 1 };
-        let (operators, rides, stamps, revisions) = (vec![0; 3], vec![0; 3], vec![0; 3], vec![0; 3]);
-        let parts = Vectors { operators, rides, stamps, revisions, index: vec![0; 4] };
+        let parts = head.lengths().map(|needed| vec![0; needed + 1], |needed| vec![0; needed + 1]);
         let board = Lent { head, parts };
         let differences = |answer: Answer, change: fn(&mut Lent)| {
             let (mut totals, mut spare) = (Totals::default(), board.clone());
@@ -402,6 +417,9 @@ mod tests {
         assert_eq!(differences(taken, |spare| spare.parts.stamps[2] = 9), 0);
         assert_eq!(differences(taken, |spare| spare.parts.revisions[2] = 9), 0);
         assert_eq!(differences(taken, |spare| spare.parts.index[3] = 9), 0);
+        assert_eq!(differences(taken, |spare| spare.parts.presence_stamps[3] = 9), 0);
+        assert_eq!(differences(taken, |spare| spare.parts.presence_revisions[3] = 9), 0);
+        assert_eq!(differences(taken, |spare| spare.parts.presence[3] = 9), 0);
         assert_eq!(differences(Answer { code: 0, differ: 4 }, |_| {}), 1);
         assert_eq!(differences(taken, |spare| spare.head.pairs = 0), 1);
         assert_eq!(differences(taken, |spare| spare.parts.operators[1] = 9), 1);
@@ -409,5 +427,8 @@ mod tests {
         assert_eq!(differences(taken, |spare| spare.parts.stamps[1] = 9), 1);
         assert_eq!(differences(taken, |spare| spare.parts.revisions[1] = 9), 1);
         assert_eq!(differences(taken, |spare| spare.parts.index[2] = 9), 1);
+        assert_eq!(differences(taken, |spare| spare.parts.presence_stamps[2] = 9), 1);
+        assert_eq!(differences(taken, |spare| spare.parts.presence_revisions[2] = 9), 1);
+        assert_eq!(differences(taken, |spare| spare.parts.presence[2] = 9), 1);
     }
 }

@@ -49,7 +49,7 @@ pub struct Proved;
 
 impl Board for Proved {
     fn build(&mut self, head: Head, parts: &mut Slices, start: u32) -> u16 {
-        let Parts { operators, rides, stamps, revisions, index } = parts;
+        let Parts { operators, rides, stamps, revisions, index, presence_stamps, presence_revisions, presence } = parts;
         unsafe {
             exported::board_build(
                 head_of(head),
@@ -64,14 +64,37 @@ impl Board for Proved {
                 revisions.len(),
                 index.as_mut_ptr(),
                 index.len(),
+                presence_stamps.as_mut_ptr(),
+                presence_stamps.len(),
+                presence_revisions.as_mut_ptr(),
+                presence_revisions.len(),
+                presence.as_mut_ptr(),
+                presence.len(),
             )
         }
     }
 
-    fn query(&mut self, head: Head, index: &[u16], alpha: u16, beta: u16, marks: &mut [u16]) -> Counts {
-        let (marks_at, marks_length) = (marks.as_mut_ptr(), marks.len());
+    fn query(
+        &mut self,
+        head: Head,
+        index: &[u16],
+        presence: &[u16],
+        alpha: u16,
+        beta: u16,
+        marks: &mut [u16],
+    ) -> Counts {
         let counts = unsafe {
-            exported::board_query(head_of(head), index.as_ptr(), index.len(), alpha, beta, marks_at, marks_length)
+            exported::board_query(
+                head_of(head),
+                index.as_ptr(),
+                index.len(),
+                presence.as_ptr(),
+                presence.len(),
+                alpha,
+                beta,
+                marks.as_mut_ptr(),
+                marks.len(),
+            )
         };
         Counts { code: counts.code, operators: counts.operators, rides: counts.rides }
     }
@@ -81,6 +104,7 @@ impl Board for Proved {
         head: Head,
         operators: &[u16],
         rides: &[u16],
+        presence: &[u16],
         marks: &mut [u16],
         alpha: u16,
         beta: u16,
@@ -93,6 +117,8 @@ impl Board for Proved {
                 operators.len(),
                 rides.as_ptr(),
                 rides.len(),
+                presence.as_ptr(),
+                presence.len(),
                 marks.as_mut_ptr(),
                 marks.len(),
                 alpha,
@@ -104,7 +130,7 @@ impl Board for Proved {
     }
 
     fn message(&mut self, head: &mut Head, parts: &mut Slices, message: Message) -> Answer {
-        let Parts { operators, rides, stamps, revisions, index } = parts;
+        let Parts { operators, rides, stamps, revisions, index, presence_stamps, presence_revisions, presence } = parts;
         let answer = unsafe {
             exported::board_message(
                 (head as *mut Head).cast(),
@@ -118,6 +144,12 @@ impl Board for Proved {
                 revisions.len(),
                 index.as_mut_ptr(),
                 index.len(),
+                presence_stamps.as_mut_ptr(),
+                presence_stamps.len(),
+                presence_revisions.as_mut_ptr(),
+                presence_revisions.len(),
+                presence.as_mut_ptr(),
+                presence.len(),
                 message_of(message),
             )
         };
@@ -125,7 +157,7 @@ impl Board for Proved {
     }
 
     fn messages(&mut self, head: &mut Head, parts: &mut Slices, messages: &[Message], answers: &mut [u16]) -> u16 {
-        let Parts { operators, rides, stamps, revisions, index } = parts;
+        let Parts { operators, rides, stamps, revisions, index, presence_stamps, presence_revisions, presence } = parts;
         unsafe {
             exported::board_messages(
                 (head as *mut Head).cast(),
@@ -139,6 +171,12 @@ impl Board for Proved {
                 revisions.len(),
                 index.as_mut_ptr(),
                 index.len(),
+                presence_stamps.as_mut_ptr(),
+                presence_stamps.len(),
+                presence_revisions.as_mut_ptr(),
+                presence_revisions.len(),
+                presence.as_mut_ptr(),
+                presence.len(),
                 messages.as_ptr().cast(),
                 messages.len(),
                 answers.as_mut_ptr(),
@@ -157,7 +195,7 @@ impl Library for Proved {
         spare_head: &mut Head,
         spare: &mut Slices,
     ) -> Answer {
-        let Parts { operators, rides, stamps, revisions, index } = parts;
+        let Parts { operators, rides, stamps, revisions, index, presence_stamps, presence_revisions, presence } = parts;
         let answer = unsafe {
             exported::board_preview(
                 head_of(head),
@@ -171,6 +209,12 @@ impl Library for Proved {
                 revisions.len(),
                 index.as_ptr(),
                 index.len(),
+                presence_stamps.as_ptr(),
+                presence_stamps.len(),
+                presence_revisions.as_ptr(),
+                presence_revisions.len(),
+                presence.as_ptr(),
+                presence.len(),
                 message_of(message),
                 (spare_head as *mut Head).cast(),
                 spare.operators.as_mut_ptr(),
@@ -183,6 +227,12 @@ impl Library for Proved {
                 spare.revisions.len(),
                 spare.index.as_mut_ptr(),
                 spare.index.len(),
+                spare.presence_stamps.as_mut_ptr(),
+                spare.presence_stamps.len(),
+                spare.presence_revisions.as_mut_ptr(),
+                spare.presence_revisions.len(),
+                spare.presence.as_mut_ptr(),
+                spare.presence.len(),
             )
         };
         Answer { code: answer.code, differ: answer.differ }

@@ -26,6 +26,8 @@ fn print_totals(totals: &Totals) {
         "  accepted with α = 0 alone {}, with β = 0 alone {}, with both 0 {}",
         totals.alpha_zero, totals.beta_zero, totals.both_zero
     );
+    println!("  accepted queries and peels with somebody off or out {}", totals.absent);
+    println!("  messages taken, by kind: {:?}", totals.taken_kinds);
     println!("  answers by number: {:?}", totals.numbers);
     println!("  answers of previews: {:?}", totals.preview_numbers);
     println!("  answers of messages of lists: {:?}", totals.listed_numbers);

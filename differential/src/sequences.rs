@@ -1,9 +1,11 @@
 //! Random sequences of calls, with damaged input among them, and deliveries of the same messages in several orders.
 
-use crate::compared::{Compared, Lent, INDEX_MOST, LIST_MOST, MARKS_MOST, PAIRS_MOST};
+use crate::compared::{Compared, Lent, LIST_MOST, MARKS_MOST, MOST};
 use crate::numbers::Numbers;
 use differential::Library;
-use reference::{Head, Lengths, Message, Parts, Vectors, GRANT, WITHDRAWAL};
+use reference::{
+    Head, Lengths, Message, Vectors, GRANT, OPERATOR_OFF, OPERATOR_ON, PRESENT, RIDE_IN, RIDE_OUT, WITHDRAWAL,
+};
 use std::collections::BTreeMap;
 
 const START: u32 = 100;
@@ -80,13 +82,23 @@ fn parts(numbers: &mut Numbers, lengths: Lengths) -> Vectors {
         stamps: (0..lengths.stamps).map(|_| numbers.next() as u32).collect(),
         revisions: (0..lengths.revisions).map(|_| numbers.word()).collect(),
         index: (0..lengths.index).map(|_| numbers.word()).collect(),
+        presence_stamps: (0..lengths.presence_stamps).map(|_| numbers.next() as u32).collect(),
+        presence_revisions: (0..lengths.presence_revisions).map(|_| numbers.word()).collect(),
+        presence: presence(numbers, lengths.presence),
     }
+}
+
+/// Words of presence: everybody on and in, most, or few. Every word but 1 is off or out.
+fn presence(numbers: &mut Numbers, nodes: usize) -> Vec<u16> {
+    let share = numbers.of(&[0, 10, 10, 30, 80, 100]);
+    let words = [0, 0, 2, 7, 256, 257, 65535];
+    (0..nodes).map(|_| if numbers.below(100) < share { numbers.of(&words) } else { PRESENT }).collect()
 }
 
 /// Memory of any content for a board, with its pairs in place: as long as needed, or a little longer.
 fn lent(numbers: &mut Numbers, n: u16, m: u16, pairs: &[(u16, u16)]) -> Lent {
     let head = Head { operators: n, rides: m, pairs: pairs.len() as u16 };
-    let lengths = head.lengths().map(|needed| length(numbers, needed));
+    let lengths = head.lengths().map_all(|needed| length(numbers, needed));
     let mut parts = parts(numbers, lengths);
     for (place, pair) in pairs.iter().enumerate() {
         (parts.operators[place], parts.rides[place]) = *pair;
@@ -106,16 +118,34 @@ fn resize<T: Clone + Default>(numbers: &mut Numbers, part: &mut Vec<T>, most: us
 }
 
 /// How many parts a board has.
-const PARTS: usize = 5;
+const PARTS: usize = 8;
 
 /// Cuts one of the parts short, or makes it longer.
 fn resize_part(numbers: &mut Numbers, parts: &mut Vectors, part: usize) {
     match part {
-        0 => resize(numbers, &mut parts.operators, PAIRS_MOST),
-        1 => resize(numbers, &mut parts.rides, PAIRS_MOST),
-        2 => resize(numbers, &mut parts.stamps, PAIRS_MOST),
-        3 => resize(numbers, &mut parts.revisions, PAIRS_MOST),
-        _ => resize(numbers, &mut parts.index, INDEX_MOST),
+        0 => resize(numbers, &mut parts.operators, MOST.operators),
+        1 => resize(numbers, &mut parts.rides, MOST.rides),
+        2 => resize(numbers, &mut parts.stamps, MOST.stamps),
+        3 => resize(numbers, &mut parts.revisions, MOST.revisions),
+        4 => resize(numbers, &mut parts.index, MOST.index),
+        5 => resize(numbers, &mut parts.presence_stamps, MOST.presence_stamps),
+        6 => resize(numbers, &mut parts.presence_revisions, MOST.presence_revisions),
+        _ => resize(numbers, &mut parts.presence, MOST.presence),
+    }
+}
+
+/// Cuts one of the parts to one place less than it needs, where it needs any.
+fn shorten_part(head: Head, parts: &mut Vectors, part: usize) {
+    let places = head.lengths().list()[part].saturating_sub(1);
+    match part {
+        0 => parts.operators.truncate(places),
+        1 => parts.rides.truncate(places),
+        2 => parts.stamps.truncate(places),
+        3 => parts.revisions.truncate(places),
+        4 => parts.index.truncate(places),
+        5 => parts.presence_stamps.truncate(places),
+        6 => parts.presence_revisions.truncate(places),
+        _ => parts.presence.truncate(places),
     }
 }
 
@@ -130,7 +160,7 @@ fn spoil(numbers: &mut Numbers, part: &mut [u16], word: u16) {
 fn damage(numbers: &mut Numbers, lent: &mut Lent) {
     let (head, parts) = (lent.head, &mut lent.parts);
     let pairs = head.pairs as usize;
-    match numbers.below(16) {
+    match numbers.below(24) {
         0 => {
             lent.head.operators =
                 numbers.of(&[201, 65535, head.operators.saturating_add(1), head.operators.saturating_sub(1)])
@@ -140,29 +170,34 @@ fn damage(numbers: &mut Numbers, lent: &mut Lent) {
             let over = (head.places() + 1).min(65535) as u16;
             lent.head.pairs = numbers.of(&[over, 65535, head.pairs.saturating_add(1), head.pairs.saturating_sub(1)])
         }
-        part @ 3..=7 => resize_part(numbers, parts, part - 3),
-        8 => {
+        part @ 3..=10 => resize_part(numbers, parts, part - 3),
+        11 => {
             let word = numbers.of(&[0, head.operators, head.operators.saturating_sub(1), 65535]);
             let used = pairs.min(parts.operators.len());
             spoil(numbers, &mut parts.operators[..used], word);
         }
-        9 => {
+        12 => {
             let word = numbers.of(&[0, head.rides, head.rides.saturating_sub(1), 65535]);
             let used = pairs.min(parts.rides.len());
             spoil(numbers, &mut parts.rides[..used], word);
         }
-        10 if 2 <= pairs && pairs <= parts.operators.len().min(parts.rides.len()) => {
+        13 if 2 <= pairs && pairs <= parts.operators.len().min(parts.rides.len()) => {
             let place = numbers.below(pairs - 1);
             parts.operators.swap(place, place + 1);
             parts.rides.swap(place, place + 1);
         }
-        11 if !parts.stamps.is_empty() => {
+        14 if !parts.stamps.is_empty() => {
             let place = numbers.below(parts.stamps.len());
             parts.stamps[place] = numbers.of(&[0, 1, START, u32::MAX]);
         }
-        12 => parts.stamps.iter_mut().for_each(|stamp| *stamp = 0),
-        13 => parts.revisions.iter_mut().for_each(|word| *word = revision(numbers)),
-        14 => {
+        15 => parts.stamps.iter_mut().for_each(|stamp| *stamp = 0),
+        16 => parts.revisions.iter_mut().for_each(|word| *word = revision(numbers)),
+        17 => {
+            parts.presence_stamps.iter_mut().for_each(|stamp| *stamp = numbers.of(&[0, 1, START, START + 9, u32::MAX]))
+        }
+        18 => parts.presence_revisions.iter_mut().for_each(|word| *word = revision(numbers)),
+        19 | 20 => parts.presence = presence(numbers, parts.presence.len()),
+        21 => {
             let word = numbers.word();
             spoil(numbers, &mut parts.index, word);
         }
@@ -221,27 +256,46 @@ fn revision(numbers: &mut Numbers) -> u16 {
     }
 }
 
-/// The stamp and the revision that a board has of a pair. Those of a build's grant where there is no such place, or the
-/// pair was never heard of.
-fn last(lent: &Lent, operator: u16, ride: u16) -> (u32, u16) {
-    let place = lent.head.place(operator, ride);
-    match (lent.parts.stamps.get(place), lent.parts.revisions.get(place)) {
+/// The stamp and the revision that a board has of a message's pair, operator or ride. Those of a build's grant where there
+/// is no such place, or nothing was heard of it.
+fn last(lent: &Lent, kind: u16, operator: u16, ride: u16) -> (u32, u16) {
+    let Lent { head, parts } = lent;
+    let (place, node) = (head.place(operator, ride), head.ride_node(ride));
+    let last = match kind {
+        OPERATOR_ON | OPERATOR_OFF => {
+            (parts.presence_stamps.get(operator as usize), parts.presence_revisions.get(operator as usize))
+        }
+        RIDE_IN | RIDE_OUT => (parts.presence_stamps.get(node), parts.presence_revisions.get(node)),
+        _ => (parts.stamps.get(place), parts.revisions.get(place)),
+    };
+    match last {
         (Some(&stamp), Some(&revision)) if stamp != 0 => (stamp, revision),
         _ => (START, 0),
     }
 }
 
-/// A message, mostly valid. Its stamp is often that of its pair's last or near those of others, and so is its revision.
+/// A message, mostly valid, in three of five cases for a pair. Its stamp is often that of its last or near those of others,
+/// and so is its revision.
 fn message(numbers: &mut Numbers, lent: &Lent) -> Message {
     let number = |numbers: &mut Numbers, size: u16| match numbers.below(30) {
         0 => size,
         1 => numbers.word(),
         _ => numbers.below(size.max(1) as usize) as u16,
     };
-    let (operator, ride) = (number(numbers, lent.head.operators), number(numbers, lent.head.rides));
-    let (last_stamp, last_revision) = last(lent, operator, ride);
+    let unused = |numbers: &mut Numbers| match numbers.below(40) {
+        0 => numbers.word(),
+        1 => 1,
+        2 => 200,
+        _ => 0,
+    };
+    let kind = if numbers.one_in(25) { numbers.of(&[0, 7, 260, 65535]) } else { numbers.of(&KINDS) };
+    let operator =
+        if matches!(kind, RIDE_IN | RIDE_OUT) { unused(numbers) } else { number(numbers, lent.head.operators) };
+    let ride =
+        if matches!(kind, OPERATOR_ON | OPERATOR_OFF) { unused(numbers) } else { number(numbers, lent.head.rides) };
+    let (last_stamp, last_revision) = last(lent, kind, operator, ride);
     Message {
-        kind: if numbers.one_in(25) { numbers.of(&[0, 3, 65535]) } else { numbers.of(&[GRANT, WITHDRAWAL]) },
+        kind,
         operator,
         ride,
         revision: match numbers.below(6) {
@@ -259,6 +313,20 @@ fn message(numbers: &mut Numbers, lent: &Lent) -> Message {
     }
 }
 
+/// The kinds of a message, those of a pair three times.
+const KINDS: [u16; 10] =
+    [GRANT, GRANT, GRANT, WITHDRAWAL, WITHDRAWAL, WITHDRAWAL, OPERATOR_ON, OPERATOR_OFF, RIDE_IN, RIDE_OUT];
+
+/// One of the two kinds for the same pair, operator or ride.
+fn like_kind(numbers: &mut Numbers, kind: u16) -> u16 {
+    match kind {
+        GRANT | WITHDRAWAL => numbers.of(&[GRANT, WITHDRAWAL]),
+        OPERATOR_ON | OPERATOR_OFF => numbers.of(&[OPERATOR_ON, OPERATOR_OFF]),
+        RIDE_IN | RIDE_OUT => numbers.of(&[RIDE_IN, RIDE_OUT]),
+        _ => kind,
+    }
+}
+
 /// A head of any content, often one that a board can't have.
 fn any_head(numbers: &mut Numbers) -> Head {
     let words = [0, 1, 200, 201, 65535, numbers.word()];
@@ -268,14 +336,7 @@ fn any_head(numbers: &mut Numbers) -> Head {
 /// Spare memory of any content for a board, its head too: as long as needed, a little longer, or with a part of another
 /// length.
 fn spare(numbers: &mut Numbers, board: Head) -> Lent {
-    let needed = board.lengths();
-    let lengths = Parts {
-        operators: length(numbers, needed.operators).min(PAIRS_MOST),
-        rides: length(numbers, needed.rides).min(PAIRS_MOST),
-        stamps: length(numbers, needed.stamps).min(PAIRS_MOST),
-        revisions: length(numbers, needed.revisions).min(PAIRS_MOST),
-        index: length(numbers, needed.index).min(INDEX_MOST),
-    };
+    let lengths = board.lengths().zip(MOST).map_all(|(needed, most)| length(numbers, needed).min(most));
     let mut parts = parts(numbers, lengths);
     if numbers.one_in(4) {
         let part = numbers.below(PARTS);
@@ -307,6 +368,15 @@ fn preview<B: Library>(compared: &mut Compared<B>, numbers: &mut Numbers, board:
     }
 }
 
+/// A board for a query or peel, one in three times with other words of presence than it has.
+fn asked(numbers: &mut Numbers, board: &Lent) -> Lent {
+    let mut asked = board.clone();
+    if numbers.one_in(3) {
+        asked.parts.presence = presence(numbers, board.parts.presence.len());
+    }
+    asked
+}
+
 /// A board that is built, and then queried, peeled, sent messages and previewed; some calls are given damaged input.
 pub fn sequence<B: Library>(compared: &mut Compared<B>, numbers: &mut Numbers, size: Size) {
     let (n, m) = size.numbers(numbers);
@@ -332,7 +402,7 @@ pub fn sequence<B: Library>(compared: &mut Compared<B>, numbers: &mut Numbers, s
             0..=2 => {
                 let (alpha, beta) = limits(numbers, board.head);
                 let mut marks = marks(numbers, board.head);
-                compared.query(&board, alpha, beta, &mut marks);
+                compared.query(&asked(numbers, &board), alpha, beta, &mut marks);
             }
             3..=4 => {
                 let (alpha, beta) = limits(numbers, board.head);
@@ -342,7 +412,7 @@ pub fn sequence<B: Library>(compared: &mut Compared<B>, numbers: &mut Numbers, s
                     1 => numbers.below(4) as u16,
                     _ => numbers.below(board.head.nodes() + 1) as u16,
                 };
-                compared.peel(&board, &mut marks, alpha, beta, steps);
+                compared.peel(&asked(numbers, &board), &mut marks, alpha, beta, steps);
             }
             5..=6 => {
                 let one = message(numbers, &board);
@@ -372,13 +442,10 @@ fn deliver<B: Library>(compared: &mut Compared<B>, numbers: &mut Numbers, board:
     while !rest.is_empty() {
         let count = 1 + numbers.below(rest.len().min(6));
         let (first, others) = rest.split_at(count);
-        if numbers.one_in(6) && 0 < board.head.places() {
+        let part = numbers.below(PARTS);
+        if numbers.one_in(6) && 0 < board.head.lengths().list()[part] {
             let whole = board.parts.clone();
-            if numbers.one_in(2) {
-                board.parts.stamps.truncate(board.head.places() - 1);
-            } else {
-                board.parts.revisions.truncate(board.head.places() - 1);
-            }
+            shorten_part(board.head, &mut board.parts, part);
             compared.message(board, first[0]);
             board.parts = whole;
         }
@@ -398,46 +465,96 @@ fn some_messages(numbers: &mut Numbers, lent: &Lent, count: usize) -> Vec<Messag
     let mut messages: Vec<Message> = (0..count).map(|_| message(numbers, lent)).collect();
     for _ in 0..numbers.below(count) {
         let corrected = messages[numbers.below(count)];
-        messages.push(Message { kind: numbers.of(&[GRANT, WITHDRAWAL]), revision: revision(numbers), ..corrected });
+        messages.push(Message { kind: like_kind(numbers, corrected.kind), revision: revision(numbers), ..corrected });
     }
     messages
 }
 
-/// The book: for each pair that has an entry the stamp, the revision and the kind of its latest.
-type Book = BTreeMap<(u16, u16), (u32, u16, u16)>;
+/// What an entry of the book is for.
+#[derive(Clone, Copy, PartialEq, Eq, PartialOrd, Ord)]
+enum Subject {
+    Pair(u16, u16),
+    Operator(u16),
+    Ride(u16),
+}
+
+/// The book: for each pair, operator and ride that has an entry the stamp, the revision and the kind of its latest.
+type Book = BTreeMap<Subject, (u32, u16, u16)>;
+
+/// What a message is entered for, where it is valid.
+fn subject(head: Head, one: Message) -> Option<Subject> {
+    let Message { kind, operator, ride, revision, stamp } = one;
+    let (subject, is_in_range, unused) = match kind {
+        GRANT | WITHDRAWAL => (Subject::Pair(operator, ride), operator < head.operators && ride < head.rides, 0),
+        OPERATOR_ON | OPERATOR_OFF => (Subject::Operator(operator), operator < head.operators, ride),
+        RIDE_IN | RIDE_OUT => (Subject::Ride(ride), ride < head.rides, operator),
+        _ => return None,
+    };
+    Some(subject).filter(|_| is_in_range && stamp != 0 && revision <= 255 && unused == 0)
+}
 
 fn book(head: Head, pairs: &[(u16, u16)], messages: &[Message]) -> Book {
-    let mut latest: Book = pairs.iter().map(|pair| (*pair, (START, 0, GRANT))).collect();
-    let is_valid = |one: &&Message| {
-        let is_in_range = one.operator < head.operators && one.ride < head.rides;
-        (one.kind == GRANT || one.kind == WITHDRAWAL) && is_in_range && one.stamp != 0 && one.revision <= 255
-    };
-    for one in messages.iter().filter(is_valid) {
-        let entry = latest.entry((one.operator, one.ride)).or_default();
-        *entry = (one.stamp, one.revision, one.kind).max(*entry);
+    let grants = pairs.iter().map(|&(operator, ride)| (Subject::Pair(operator, ride), (START, 0, GRANT)));
+    let mut latest: Book = grants.collect();
+    for one in messages {
+        if let Some(subject) = subject(head, *one) {
+            let entry = latest.entry(subject).or_default();
+            *entry = (one.stamp, one.revision, one.kind).max(*entry);
+        }
     }
     latest
 }
 
-/// The board that is worked out from a book, in memory that a build left.
-fn worked_out(built: &Lent, book: &Book) -> Lent {
+/// Whether an operator or ride is on or in: it has no entry, or its latest is of kind 3 or 5.
+fn is_present(book: &Book, node: Subject) -> bool {
+    book.get(&node).is_none_or(|latest| matches!(latest.2, OPERATOR_ON | RIDE_IN))
+}
+
+/// The pair arrays of these pairs, and all that a build leaves with them, in memory that another build left.
+fn built_of(built: &Lent, pairs: &[(u16, u16)]) -> Lent {
     let Lent { mut head, mut parts } = built.clone();
-    let listed = book.iter().filter(|entry| entry.1 .2 == GRANT).map(|entry| *entry.0);
-    head.pairs = listed.clone().count() as u16;
-    for (place, pair) in listed.enumerate() {
-        (parts.operators[place], parts.rides[place]) = pair;
+    head.pairs = pairs.len() as u16;
+    for (place, pair) in pairs.iter().enumerate() {
+        (parts.operators[place], parts.rides[place]) = *pair;
     }
     reference::build(head, &mut parts.lend(), START);
+    Lent { head, parts }
+}
+
+/// The board that is worked out from a book, in memory that a build left. The index is that of a build of the pairs that
+/// count, and of no others.
+fn worked_out(built: &Lent, book: &Book) -> Lent {
+    let listed = book.iter().filter(|(_, latest)| latest.2 == GRANT);
+    let listed: Vec<(u16, u16)> = listed
+        .filter_map(|(subject, _)| match *subject {
+            Subject::Pair(operator, ride) => Some((operator, ride)),
+            _ => None,
+        })
+        .collect();
+    let counts =
+        |pair: &&(u16, u16)| is_present(book, Subject::Operator(pair.0)) && is_present(book, Subject::Ride(pair.1));
+    let counting: Vec<(u16, u16)> = listed.iter().filter(counts).copied().collect();
+    let Lent { head, mut parts } = built_of(built, &listed);
+    parts.index = built_of(built, &counting).parts.index;
     parts.stamps[..head.places()].fill(0);
-    for ((operator, ride), (stamp, revision, _)) in book {
-        let place = head.place(*operator, *ride);
-        (parts.stamps[place], parts.revisions[place]) = (*stamp, *revision);
+    for (subject, &(stamp, revision, _)) in book {
+        let node = match *subject {
+            Subject::Pair(operator, ride) => {
+                let place = head.place(operator, ride);
+                (parts.stamps[place], parts.revisions[place]) = (stamp, revision);
+                continue;
+            }
+            Subject::Operator(operator) => operator as usize,
+            Subject::Ride(ride) => head.ride_node(ride),
+        };
+        (parts.presence_stamps[node], parts.presence_revisions[node]) = (stamp, revision);
+        parts.presence[node] = is_present(book, *subject) as u16;
     }
     Lent { head, parts }
 }
 
-/// Demand 3 on the library itself: the same messages in two orders, one of them with repeats, leave the same board, the
-/// one that is worked out from the latest message of each pair.
+/// Demand 3 on the library itself: the same messages in three orders, one the reverse of another and one with repeats, leave
+/// the same board, the one that is worked out from the latest message of each pair, operator and ride.
 pub fn delivery<B: Library>(compared: &mut Compared<B>, numbers: &mut Numbers, size: Size) {
     let (n, m) = size.numbers(numbers);
     let pairs = table(numbers, n, m);
@@ -449,13 +566,17 @@ pub fn delivery<B: Library>(compared: &mut Compared<B>, numbers: &mut Numbers, s
     let mut messages = some_messages(numbers, &built, count);
     let expected = worked_out(&built, &book(built.head, &pairs, &messages));
 
-    for repeated in [false, true] {
+    for order in 0..3 {
         let mut board = built.clone();
-        if repeated {
-            let again = numbers.below(count);
-            messages.extend_from_within(..again);
+        match order {
+            0 => numbers.shuffle(&mut messages),
+            1 => messages.reverse(),
+            _ => {
+                let again = numbers.below(count);
+                messages.extend_from_within(..again);
+                numbers.shuffle(&mut messages);
+            }
         }
-        numbers.shuffle(&mut messages);
         deliver(compared, numbers, &mut board, &messages);
         if board != expected {
             compared.totals.differ("the board is not the one worked out from the latest messages");

@@ -208,6 +208,14 @@ fn steps_of_a_peel() {
         }
     }
 
+    // Any word but 1 is off or out.
+    let words = board.words();
+    for gone in [0, 2, 7, 257, u16::MAX] {
+        let (mut marks, presence) = ([1; 7], [1, gone, 1, 1, 1, 1, gone]);
+        let answer = peel(HEAD, words.operators, words.rides, &presence, &mut marks, 0, 0, 2);
+        assert_eq!((answer, marks), (Ok(Peeled { settled: true, steps: 2 }), [1, 0, 1, 1, 1, 1, 0]), "word {gone}");
+    }
+
     // Nobody unmarked takes a step, and the mark of somebody off is checked like any other.
     let mut marks = [1, 0, 1, 0, 1, 0, 1];
     assert_eq!(board.peel(&mut marks, 0, 0, 9), Ok(Peeled { settled: true, steps: 1 }));

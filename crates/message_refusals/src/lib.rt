@@ -40,7 +40,10 @@ fn outside(head: Head, message: Message) -> bool
     ensures { λ r. ⌜ r ≡ refused-8 head message ⌝ }
 {
     if message.kind <= 2 {
-        return head.operators <= message.operator || head.rides <= message.ride;
+        if head.operators <= message.operator {
+            return true;
+        }
+        return head.rides <= message.ride;
     }
     if message.kind <= 4 {
         return head.operators <= message.operator;

@@ -18,60 +18,69 @@ use Rattle.refusals.proofs.Chain.{table-first, table-rest, table-long}
 -- ---- peel
 
 -- 3 of a peel
-abbrev pub short-parts : Head → List ℕ → List ℕ → List ℕ → Bool
-short-parts h operators rides marks =
-    refused-3 (pair-places h) operators || refused-3 (pair-places h) rides || refused-3 (mark-places h) marks
+abbrev pub short-parts : Head → List ℕ → List ℕ → List ℕ → List ℕ → Bool
+short-parts h operators rides presence marks =
+    refused-3 (pair-places h) operators || refused-3 (pair-places h) rides || refused-3 (mark-places h) presence || refused-3 (mark-places h) marks
 
--- the three parts of a peel, where none is too short
-pub peel-long : (h : Head) (operators rides marks : List ℕ) → (T (short-parts h operators rides marks) → ⊥) → (pair-places h ≤ length operators) × (pair-places h ≤ length rides) × (mark-places h ≤ length marks)
-peel-long h operators rides marks n =
+-- the parts that a peel is lent, where none is too short
+pub peel-long : (h : Head) (operators rides presence marks : List ℕ) → (T (short-parts h operators rides presence marks) → ⊥) → (pair-places h ≤ length operators) × (pair-places h ≤ length rides) × (mark-places h ≤ length presence) × (mark-places h ≤ length marks)
+peel-long h operators rides presence marks n =
     let o : Bool = refused-3 (pair-places h) operators in
     let r : Bool = refused-3 (pair-places h) rides in
+    let p : Bool = refused-3 (mark-places h) presence in
     let m : Bool = refused-3 (mark-places h) marks in (
-      enough (length operators) (pair-places h) (λ t. n (or-left (o || r) m (or-left o r t))),
-      enough (length rides) (pair-places h) (λ t. n (or-left (o || r) m (or-right o r t))),
-      enough (length marks) (mark-places h) (λ t. n (or-right (o || r) m t)),
+      enough (length operators) (pair-places h) (λ t. n (or-left (o || r || p) m (or-left (o || r) p (or-left o r t)))),
+      enough (length rides) (pair-places h) (λ t. n (or-left (o || r || p) m (or-left (o || r) p (or-right o r t)))),
+      enough (length presence) (mark-places h) (λ t. n (or-left (o || r || p) m (or-right (o || r) p t))),
+      enough (length marks) (mark-places h) (λ t. n (or-right (o || r || p) m t)),
     )
 
 -- what `short_peel` and `table_number` give
-module _ (h : Head) (operators rides marks : List ℕ) (short : Bool) (s : short ≡ short-parts h operators rides marks) (k : ℕ) (t : k ≡ first-number (table-cases h short operators rides)) where
+module _ (h : Head) (operators rides presence marks : List ℕ) (short : Bool) (s : short ≡ short-parts h operators rides presence marks) (k : ℕ) (t : k ≡ first-number (table-cases h short operators rides)) where
   abbrev behind : List (ℕ × Bool)
   behind = (12, refused-12 h marks) ∷ []
 
-  table : k ≡ first-number (table-cases h (short-parts h operators rides marks) operators rides)
+  table : k ≡ first-number (table-cases h (short-parts h operators rides presence marks) operators rides)
   table = t ∙ ap (λ (b : Bool). first-number (table-cases h b operators rides)) s
 
-  pub peel-table : k ≢ 0 → k ≡ peel-refusal h operators rides marks
+  pub peel-table : k ≢ 0 → k ≡ peel-refusal h operators rides presence marks
   unfolding peel-refusal
-  peel-table n = table-first h (short-parts h operators rides marks) operators rides behind k table n
+  peel-table n = table-first h (short-parts h operators rides presence marks) operators rides behind k table n
 
   module _ (z : k ≡ 0) where
-    last : first-number behind ≡ peel-refusal h operators rides marks
+    last : first-number behind ≡ peel-refusal h operators rides presence marks
     unfolding peel-refusal
-    last = table-rest h (short-parts h operators rides marks) operators rides behind k table z
+    last = table-rest h (short-parts h operators rides presence marks) operators rides behind k table z
 
-    pub peel-12 : refused-12 h marks ≡ true → 12 ≡ peel-refusal h operators rides marks
+    pub peel-12 : refused-12 h marks ≡ true → 12 ≡ peel-refusal h operators rides presence marks
     peel-12 b = sym (first-here 12 (refused-12 h marks) [] (subst T (sym b) tt)) ∙ last
 
-    pub peel-0 : refused-12 h marks ≡ false → 0 ≡ peel-refusal h operators rides marks
+    pub peel-0 : refused-12 h marks ≡ false → 0 ≡ peel-refusal h operators rides presence marks
     peel-0 b = sym (first-skip 12 (refused-12 h marks) [] (λ x. subst T b x) ∙ first-nil) ∙ last
 
     -- the marks are long enough
     pub marks-long : mark-places h ≤ length marks
-    marks-long = peel-long h operators rides marks (table-long h (short-parts h operators rides marks) operators rides [] (sym table ∙ z)) .2
+    marks-long = peel-long h operators rides presence marks (table-long h (short-parts h operators rides presence marks) operators rides [] (sym table ∙ z)) .3
 
 -- ---- 3 and 12 of a peel
 
-module _ (h : Head) (operators rides marks : List ℕ) where
-  pub peel-operators : length operators < pair-places h → true ≡ short-parts h operators rides marks
+module _ (h : Head) (operators rides presence marks : List ℕ) where
+  pub peel-operators : length operators < pair-places h → true ≡ short-parts h operators rides presence marks
   peel-operators l = rw (lt-ltb (length operators) (pair-places h) l)
 
-  pub peel-rides : pair-places h ≤ length operators → length rides < pair-places h → true ≡ short-parts h operators rides marks
+  pub peel-rides : pair-places h ≤ length operators → length rides < pair-places h → true ≡ short-parts h operators rides presence marks
   peel-rides k l = rw (le-ltb (length operators) (pair-places h) k, lt-ltb (length rides) (pair-places h) l)
 
-  pub peel-marks : pair-places h ≤ length operators → pair-places h ≤ length rides → ltb (length marks) (mark-places h) ≡ short-parts h operators rides marks
-  peel-marks k l = rw (le-ltb (length operators) (pair-places h) k, le-ltb (length rides) (pair-places h) l)
+  module _ (k : pair-places h ≤ length operators) (l : pair-places h ≤ length rides) where
+    pub peel-presence : length presence < mark-places h → true ≡ short-parts h operators rides presence marks
+    peel-presence p =
+        rw (le-ltb (length operators) (pair-places h) k, le-ltb (length rides) (pair-places h) l, lt-ltb (length presence) (mark-places h) p)
 
+    pub peel-marks : mark-places h ≤ length presence → ltb (length marks) (mark-places h) ≡ short-parts h operators rides presence marks
+    peel-marks p =
+        rw (le-ltb (length operators) (pair-places h) k, le-ltb (length rides) (pair-places h) l, le-ltb (length presence) (mark-places h) p)
+
+module _ (h : Head) (marks : List ℕ) where
   pub bad-mark : (i : ℕ) → i < mark-places h → 1 < getD marks i 0 → true ≡ refused-12 h marks
   unfolding refused-12
   bad-mark i k l = sym (test-true (some (mark-places h) (λ x. ltb 1 (getD marks x 0))) (some-holds (λ x. ltb 1 (getD marks x 0)) (mark-places h) i k (lt→ltb 1 (getD marks i 0) l)))

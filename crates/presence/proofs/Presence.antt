@@ -1,18 +1,18 @@
 -- The place of a message's operator or ride, what a board has there, and 10 of such a message. Assumes nothing.
 use mathlib.Core.Path.{_≡_, refl, sym, ap, _∙_}
 use mathlib.Core.Bool.{Bool, _&&_, _||_, not}
-use Prim.Native.Nat.{ℕ, _≤_}
+use Prim.Native.Nat.{ℕ, _≤_, _<_}
 use native.Mathlib.Omega.{arith}
 use lib.Dec.{ltb, eqb}
 use lib.ListN.{getD}
 use Rattle.model.specs.declared.Head.{Head}
 use Rattle.model.specs.declared.Message.{Message}
 use Rattle.model.specs.Count.{bit}
-use Rattle.model.specs.Layout.{PresenceStamps, PresenceRevisions, Presence, Board}
+use Rattle.model.specs.Layout.{PresenceStamps, PresenceRevisions, Presence, Board, mark-places}
 use Rattle.model.specs.Contents.{Slot, Entry, gives, later, slot, entry, contents, ride-place, entry-at}
 use Rattle.model.specs.Refusal.{refused-10}
 use Rattle.model.proofs.Count.{bit-test}
-use Rattle.model.proofs.Refusal.{slot-operator, slot-ride, by-kind}
+use Rattle.model.proofs.Refusal.{slot-operator, slot-ride, by-kind, Within}
 use Rattle.presence.specs.Presence.{node-place}
 
 module _ (h : Head) (m : Message) where
@@ -21,6 +21,14 @@ module _ (h : Head) (m : Message) where
 
   pub ride-at : 5 ≤ m .kind → ride-place h (m .ride) ≡ node-place h (slot m)
   ride-at l = sym (ap (node-place h) (slot-ride m l))
+
+  -- in range it has a place
+  pub place-within : 3 ≤ m .kind → Within h (slot m) → node-place h (slot m) < mark-places h
+  place-within l =
+      by-kind m (λ t. Within h t → node-place h t < mark-places h)
+      (λ k. absurd (let z : ⊥ = omega arith in z))
+      (λ k k′ w. let z : m .operator < mark-places h = omega arith in z)
+      (λ k w. let z : ride-place h (m .ride) < mark-places h = omega arith in z)
 
 -- a message for an operator or ride speaks of what stands at its place
 node-contents : (b : Board) (m : Message) → 3 ≤ m .kind → contents b (slot m) ≡ entry-at b (node-place (b .head) (slot m))

@@ -1,16 +1,14 @@
--- The marks of one side of a row: a mark counts itself, and for level 0 all are marked. Assumes nothing.
-use mathlib.Core.Path.{_≡_, refl, sym, ap, _∙_, subst}
+-- The marks of one side of a row: those that a loop has set, and that a mark counts itself. Assumes nothing.
+use mathlib.Core.Path.{_≡_, refl, sym}
+use mathlib.Core.Bool.{Bool}
 use mathlib.Core.List.{List}
-use Prim.Native.Nat.{ℕ, zero, suc, _≤_}
+use Prim.Native.Nat.{ℕ, zero, suc, _+_, _≤_, _<_}
 use native.Mathlib.Omega.{arith}
-use lib.Dec.{T, leb, eqb}
-use borrow.Author.Tests.{le-leb}
-use lib.ListN.{length, getD}
-use Rattle.model.specs.Count.{bit}
-use Rattle.model.proofs.Count.{count-all}
-use Rattle.words.specs.Filled.{filled}
-use Rattle.words.proofs.Filled.{filled-at}
-use Rattle.sides.specs.Marked.{Marked}
+use lib.Dec.{eqb}
+use lib.ListN.{length, getD, set}
+use Rattle.model.specs.Count.{bit, count}
+use Rattle.model.proofs.Count.{bit-le, count-le, count-more, count-none}
+use Rattle.model.proofs.Store.{stored}
 
 -- a mark that is 0 or 1 counts itself
 pub bit-of : (z : ℕ) → z ≤ 1 → bit (eqb z 1) ≡ z
@@ -18,11 +16,24 @@ bit-of zero l = refl
 bit-of (suc zero) l = refl
 bit-of (suc (suc z)) l = absurd (let k : ⊥ = omega arith in k)
 
--- for level 0 all nodes are marked
-pub all-marked : (levels marks words : List ℕ) (least : ℕ) → length marks ≡ length levels → least ≡ 0 → words ≡ filled 0 (length marks) 1 marks → Marked levels least (length marks) words
-all-marked levels marks words least same e w =
-    rw (w, e)
-    (record {
-      marks-are = λ i k. filled-at marks 0 1 (length marks) (omega arith) (omega arith) i (omega arith) (omega arith) ∙ sym (ap bit (le-leb 0 (getD levels i 0) (omega arith)));
-      counted = same ∙ sym (count-all (λ (i : ℕ). leb 0 (getD levels i 0)) (length levels) (λ i k. subst T (sym (le-leb 0 (getD levels i 0) (omega arith))) tt));
-    })
+-- the marks below i are those of a test, and r of them are 1
+pub record Upto (test : ℕ → Bool) (i r : ℕ) (marks : List ℕ) : Type 0 where
+  pub marks-are : (k : ℕ) → k < i → getD marks k 0 ≡ bit (test k)
+  pub counted : r ≡ count i test
+
+module _ (test : ℕ → Bool) (marks : List ℕ) where
+  pub upto-none : Upto test 0 0 marks
+  upto-none = record { marks-are = λ k l. absurd (let z : ⊥ = omega arith in z); counted = sym (count-none test) }
+
+  module _ (i r m : ℕ) (u : Upto test i r marks) (e : m ≡ bit (test i)) where
+    -- one mark more
+    pub upto-more : i < length marks → Upto test (i + 1) (r + m) (set marks i m)
+    upto-more l =
+        record {
+          marks-are = stored (λ (k : ℕ). bit (test k)) marks marks i m l e (u .marks-are);
+          counted = omega (arith, u .counted, e, count-more test i);
+        }
+
+    -- the count of those is small
+    pub upto-few : r + m ≤ i + 1
+    upto-few = omega (arith, u .counted, e, count-le test i, bit-le (test i))

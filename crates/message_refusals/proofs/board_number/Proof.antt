@@ -16,7 +16,7 @@ returns : tie.Need-returns
 returns c = let s = c .before .before .before .before .before in
     let a = s .args in
     let e = c .before .table-number .ensures in
-    λ revisions index. stamped-table (lent (a .head) (a .operators .now) (a .rides .now) (a .stamps .now) revisions index) (a .short) _ e (omega arith)
+    λ revisions index stamps′ revisions′ presence. stamped-table (lent (a .head) (a .operators .now) (a .rides .now) (a .stamps .now) revisions index stamps′ revisions′ presence) (a .short) _ e (omega arith)
 
 missing-requires : tie.Need-missing-requires
 missing-requires c κs = let s = c .before .before .before .before .before in
@@ -30,13 +30,13 @@ returns-2 : tie.Need-returns-2
 returns-2 c = let s = c .before .before .before .before .before .before .before in
     let a = s .args in
     let e = c .before .before .before .table-number .ensures in
-    λ revisions index. stamped-6 (lent (a .head) (a .operators .now) (a .rides .now) (a .stamps .now) revisions index) (a .short) _ e (omega arith) (sym (c .before .missing .ensures revisions index) ∙ c .if2 .taken)
+    λ revisions index stamps′ revisions′ presence. stamped-6 (lent (a .head) (a .operators .now) (a .rides .now) (a .stamps .now) revisions index stamps′ revisions′ presence) (a .short) _ e (omega arith) (sym (c .before .missing .ensures revisions index stamps′ revisions′ presence) ∙ c .if2 .taken)
 
 returns-3 : tie.Need-returns-3
 returns-3 c = let s = c .before .before .before .before .before .before .before in
     let a = s .args in
     let e = c .before .before .before .table-number .ensures in
-    λ revisions index. stamped-0 (lent (a .head) (a .operators .now) (a .rides .now) (a .stamps .now) revisions index) (a .short) _ e (omega arith) (sym (c .before .missing .ensures revisions index) ∙ c .if2 .left)
+    λ revisions index stamps′ revisions′ presence. stamped-0 (lent (a .head) (a .operators .now) (a .rides .now) (a .stamps .now) revisions index stamps′ revisions′ presence) (a .short) _ e (omega arith) (sym (c .before .missing .ensures revisions index stamps′ revisions′ presence) ∙ c .if2 .left)
 
 pub board-number-spec : {M : Type 1} → statement M
 board-number-spec =

@@ -35,7 +35,7 @@ shared-slice-read-if1 : tie.Need-shared-slice-read-if1 Inv-loop μ-loop
 shared-slice-read-if1 c = search needs
 
 returns : tie.Need-returns Inv-loop μ-loop
-returns c = let a = c .before .before .before .before .before .before .args in bad-mark (a .head) (a .marks .now) (a .marks .now) (a .marks .now) (c .before .before .before .loop .i) (omega arith) (omega arith)
+returns c = let a = c .before .before .before .before .before .before .args in bad-mark (a .head) (a .marks .now) (c .before .before .before .loop .i) (omega arith) (omega arith)
 
 add-i : tie.Need-add-i Inv-loop μ-loop
 add-i c = search needs
@@ -47,7 +47,7 @@ loop-again : tie.Need-loop-again Inv-loop μ-loop
 loop-again c = let l = c .before .before .before .loop in (omega arith, below-more _ _ (l .inv .1) (omega arith))
 
 returns-2 : tie.Need-returns-2 Inv-loop μ-loop
-returns-2 c = let a = c .before .before .before .before .args in good-marks (a .head) (a .marks .now) (a .marks .now) (a .marks .now) (λ i h. c .before .loop .inv .1 i (omega arith))
+returns-2 c = let a = c .before .before .before .before .args in good-marks (a .head) (a .marks .now) (λ i h. c .before .loop .inv .1 i (omega arith))
 
 pub bad-marks-spec : {M : Type 1} → statement M
 bad-marks-spec =

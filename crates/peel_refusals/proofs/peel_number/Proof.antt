@@ -11,24 +11,24 @@ short-peel-requires : tie.Need-short-peel-requires
 short-peel-requires c κs = search needs
 
 table-number-requires : tie.Need-table-number-requires
-table-number-requires c κs = let a = c .before .before .before .before .args in
-    λ e. let l = peel-long (a .head) (a .operators .now) (a .rides .now) (a .marks .now) (λ t. subst T (sym (c .short-peel .ensures) ∙ e) t) in (l .0, l .1)
+table-number-requires c κs = let a = c .before .before .before .before .before .args in
+    λ e. let l = peel-long (a .head) (a .operators .now) (a .rides .now) (a .presence .now) (a .marks .now) (λ t. subst T (sym (c .short-peel .ensures) ∙ e) t) in (l .0, l .1)
 
 returns : tie.Need-returns
-returns c = let a = c .before .before .before .before .before .before .args in
-    peel-table (a .head) (a .operators .now) (a .rides .now) (a .marks .now) _ (c .before .before .short-peel .ensures) _ (c .before .table-number .ensures) (omega arith)
+returns c = let a = c .before .before .before .before .before .before .before .args in
+    peel-table (a .head) (a .operators .now) (a .rides .now) (a .presence .now) (a .marks .now) _ (c .before .before .short-peel .ensures) _ (c .before .table-number .ensures) (omega arith)
 
 bad-marks-requires : tie.Need-bad-marks-requires
-bad-marks-requires c κs = let a = c .before .before .before .before .before .before .args in
-    marks-long (a .head) (a .operators .now) (a .rides .now) (a .marks .now) _ (c .before .before .short-peel .ensures) _ (c .before .table-number .ensures) (omega arith)
+bad-marks-requires c κs = let a = c .before .before .before .before .before .before .before .args in
+    marks-long (a .head) (a .operators .now) (a .rides .now) (a .presence .now) (a .marks .now) _ (c .before .before .short-peel .ensures) _ (c .before .table-number .ensures) (omega arith)
 
 returns-2 : tie.Need-returns-2
-returns-2 c = let a = c .before .before .before .before .before .before .before .before .args in
-    peel-12 (a .head) (a .operators .now) (a .rides .now) (a .marks .now) _ (c .before .before .before .before .short-peel .ensures) _ (c .before .before .before .table-number .ensures) (omega arith) (sym (c .before .bad-marks .ensures) ∙ c .if2 .taken)
+returns-2 c = let a = c .before .before .before .before .before .before .before .before .before .args in
+    peel-12 (a .head) (a .operators .now) (a .rides .now) (a .presence .now) (a .marks .now) _ (c .before .before .before .before .short-peel .ensures) _ (c .before .before .before .table-number .ensures) (omega arith) (sym (c .before .bad-marks .ensures) ∙ c .if2 .taken)
 
 returns-3 : tie.Need-returns-3
-returns-3 c = let a = c .before .before .before .before .before .before .before .before .args in
-    peel-0 (a .head) (a .operators .now) (a .rides .now) (a .marks .now) _ (c .before .before .before .before .short-peel .ensures) _ (c .before .before .before .table-number .ensures) (omega arith) (sym (c .before .bad-marks .ensures) ∙ c .if2 .left)
+returns-3 c = let a = c .before .before .before .before .before .before .before .before .before .args in
+    peel-0 (a .head) (a .operators .now) (a .rides .now) (a .presence .now) (a .marks .now) _ (c .before .before .before .before .short-peel .ensures) _ (c .before .before .before .table-number .ensures) (omega arith) (sym (c .before .bad-marks .ensures) ∙ c .if2 .left)
 
 pub peel-number-spec : {M : Type 1} → statement M
 peel-number-spec =

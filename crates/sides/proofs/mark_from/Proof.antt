@@ -1,40 +1,46 @@
--- `sides::mark_from` meets its contract. The loop's invariant: the marks below i are those of their levels, and the count is how many of them are 1. Assumes nothing.
+-- `sides::mark_from` meets its contract. The loop's invariant: the marks below i are set and counted. Assumes nothing.
 use borrow.Author.Needs.{needs}
-use Prim.Native.Nat.{ℕ, suc, _≤_, _<_, _-_}
-use mathlib.Core.Path.{_≡_, refl, sym, ap, _∙_, subst}
+use mathlib.Core.Path.{_≡_, refl, subst}
+use mathlib.Core.Bool.{Bool, _&&_}
+use mathlib.Core.List.{List}
+use Prim.Native.Nat.{ℕ, suc, _≤_, _-_}
 use native.Mathlib.Omega.{arith}
-use lib.ListN.{length, getD, length-set}
 use lib.Dec.{ltb}
-use Rattle.model.specs.Count.{bit, count}
-use Rattle.model.proofs.Count.{bit-le, count-le, count-more, count-none}
-use Rattle.model.proofs.Store.{stored}
+use lib.ListN.{length, getD, length-set}
+use Rattle.model.specs.Graph.{present}
 use Rattle.sides.specs.Marked.{Marked}
+use Rattle.sides.proofs.Marked.{Upto, upto-none, upto-more, upto-few}
 use Rattle.sides.proofs.mark_from.Statement.{statement}
 use Rattle.sides.proofs.mark_from.Tie as tie
 
+-- who is marked
+abbrev test : List ℕ → List ℕ → ℕ → ℕ → Bool
+test levels presence below k = present presence k && ltb below (getD levels k 0)
+
 abbrev Inv-loop : tie.InvT-loop
-Inv-loop levels least marks₀ n below count₀ i₀ marks count i =
-    (i ≤ n) ×
-    (n ≡ length marks₀) ×
-    (length marks ≡ length marks₀) ×
-    (count ≡ Rattle.model.specs.Count.count i (λ k. ltb below (getD levels k 0))) ×
-    ((k : ℕ) → k < i → getD marks k 0 ≡ bit (ltb below (getD levels k 0)))
+Inv-loop levels presence least marks₀ n below count₀ i₀ marks count i =
+    (i ≤ n) × (n ≡ length marks₀) × (length marks ≡ length marks₀) × Upto (test levels presence below) i count marks
 
 abbrev μ-loop : tie.MeasureT-loop
-μ-loop levels least marks₀ n below count₀ i₀ marks count i =
-    n - i
+μ-loop levels presence least marks₀ n below count₀ i₀ marks count i = n - i
 
 sub-below : tie.Need-sub-below Inv-loop μ-loop
 sub-below c = search needs
 
 loop-holds : tie.Need-loop-holds Inv-loop μ-loop
-loop-holds c = let a = c .before .before .args in (omega arith, refl, refl, sym (count-none (λ (k : ℕ). ltb (a .least - 1) (getD (a .levels .now) k 0))), (λ k l. absurd (let z : ⊥ = omega arith in z)))
+loop-holds c = (omega arith, refl, refl, upto-none _ _)
 
 mul-mark : tie.Need-mul-mark Inv-loop μ-loop
 mul-mark c = search needs
 
 shared-slice-read-mark : tie.Need-shared-slice-read-mark Inv-loop μ-loop
 shared-slice-read-mark c = search needs
+
+mul-mark-2 : tie.Need-mul-mark-2 Inv-loop μ-loop
+mul-mark-2 c = search needs
+
+shared-slice-read-mark-2 : tie.Need-shared-slice-read-mark-2 Inv-loop μ-loop
+shared-slice-read-mark-2 c = search needs
 
 mark-requires : tie.Need-mark-requires Inv-loop μ-loop
 mark-requires c κs = search needs
@@ -46,10 +52,7 @@ slice-write-marks : tie.Need-slice-write-marks Inv-loop μ-loop
 slice-write-marks c = search needs
 
 add-count : tie.Need-add-count Inv-loop μ-loop
-add-count c = let s = c .before .before .before .before .before .before in
-    let a = s .args in
-    let l = c .before .before .before .loop in
-    omega (arith, l .inv .3, count-le (λ (k : ℕ). ltb (a .least - 1) (getD (a .levels .now) k 0)) (l .i), c .mark .ensures, bit-le (ltb (a .least - 1) (getD (a .levels .now) (l .i) 0)), s .pre .1, s .pre .2)
+add-count c = let l = c .before .before .before .before .loop in omega (arith, upto-few _ _ _ _ _ (l .inv .3) (c .mark .ensures), c .before .before .before .before .before .before .before .before .pre)
 
 add-i : tie.Need-add-i Inv-loop μ-loop
 add-i c = search needs
@@ -58,26 +61,19 @@ loop-less : tie.Need-loop-less Inv-loop μ-loop
 loop-less c = search needs
 
 loop-again : tie.Need-loop-again Inv-loop μ-loop
-loop-again c = let a = c .before .before .before .before .before .before .args in
-    let l = c .before .before .before .loop in (
-      omega arith,
-      refl,
-      simp length-set (omega arith),
-      omega (arith, l .inv .3, c .mark .ensures, count-more (λ (k : ℕ). ltb (a .least - 1) (getD (a .levels .now) k 0)) (l .i)),
-      stored (λ (k : ℕ). bit (ltb (a .least - 1) (getD (a .levels .now) k 0))) (l .marks) (l .marks) (l .i) _ (omega arith) (c .mark .ensures) (l .inv .4),
-    )
+loop-again c = let l = c .before .before .before .before .loop in (omega arith, refl, simp length-set (omega arith), upto-more _ _ _ _ _ (l .inv .3) (c .mark .ensures) (omega arith))
 
 same-length : tie.Need-same-length Inv-loop μ-loop
 same-length c = search needs
 
 returns : tie.Need-returns Inv-loop μ-loop
-returns c = let s = c .before .before .before .before in
+returns c = let s = c .before .before .before .before .before in
     let a = s .args in
     let l = c .before .loop in
-    let e : l .i ≡ length (a .levels .now) = omega (arith, s .pre .1) in
-    let b : suc (a .least - 1) ≡ a .least = omega (arith, s .pre .0) in
-    subst (λ (z : ℕ). Marked (a .levels .now) z (l .count) (l .marks)) b
-    (record { marks-are = λ k h. l .inv .4 k (omega arith); counted = l .inv .3 ∙ ap (λ (z : ℕ). count z (λ (k : ℕ). ltb (a .least - 1) (getD (a .levels .now) k 0))) e })
+    let e : l .i ≡ length (a .levels .now) = omega (arith, s .pre) in
+    let b : suc (a .least - 1) ≡ a .least = omega (arith, s .pre) in
+    let u = rw e at (l .inv .3) in
+    subst (λ (z : ℕ). Marked (a .levels .now) (a .presence .now) z (l .count) (l .marks)) b (record { marks-are = u .marks-are; counted = u .counted })
 
 pub mark-from-spec : {M : Type 1} → statement M
 mark-from-spec =
@@ -89,6 +85,8 @@ mark-from-spec =
     loop-holds
     mul-mark
     shared-slice-read-mark
+    mul-mark-2
+    shared-slice-read-mark-2
     mark-requires
     mul-marks
     slice-write-marks
