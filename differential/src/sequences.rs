@@ -160,7 +160,7 @@ fn spoil(numbers: &mut Numbers, part: &mut [u16], word: u16) {
 fn damage(numbers: &mut Numbers, lent: &mut Lent) {
     let (head, parts) = (lent.head, &mut lent.parts);
     let pairs = head.pairs as usize;
-    match numbers.below(24) {
+    match numbers.below(20) {
         0 => {
             lent.head.operators =
                 numbers.of(&[201, 65535, head.operators.saturating_add(1), head.operators.saturating_sub(1)])
@@ -170,34 +170,39 @@ fn damage(numbers: &mut Numbers, lent: &mut Lent) {
             let over = (head.places() + 1).min(65535) as u16;
             lent.head.pairs = numbers.of(&[over, 65535, head.pairs.saturating_add(1), head.pairs.saturating_sub(1)])
         }
-        part @ 3..=10 => resize_part(numbers, parts, part - 3),
-        11 => {
+        3..=7 => {
+            let part = numbers.below(PARTS);
+            resize_part(numbers, parts, part);
+        }
+        8 => {
             let word = numbers.of(&[0, head.operators, head.operators.saturating_sub(1), 65535]);
             let used = pairs.min(parts.operators.len());
             spoil(numbers, &mut parts.operators[..used], word);
         }
-        12 => {
+        9 => {
             let word = numbers.of(&[0, head.rides, head.rides.saturating_sub(1), 65535]);
             let used = pairs.min(parts.rides.len());
             spoil(numbers, &mut parts.rides[..used], word);
         }
-        13 if 2 <= pairs && pairs <= parts.operators.len().min(parts.rides.len()) => {
+        10 if 2 <= pairs && pairs <= parts.operators.len().min(parts.rides.len()) => {
             let place = numbers.below(pairs - 1);
             parts.operators.swap(place, place + 1);
             parts.rides.swap(place, place + 1);
         }
-        14 if !parts.stamps.is_empty() => {
+        11 if !parts.stamps.is_empty() => {
             let place = numbers.below(parts.stamps.len());
             parts.stamps[place] = numbers.of(&[0, 1, START, u32::MAX]);
         }
-        15 => parts.stamps.iter_mut().for_each(|stamp| *stamp = 0),
-        16 => parts.revisions.iter_mut().for_each(|word| *word = revision(numbers)),
-        17 => {
-            parts.presence_stamps.iter_mut().for_each(|stamp| *stamp = numbers.of(&[0, 1, START, START + 9, u32::MAX]))
+        12 => parts.stamps.iter_mut().for_each(|stamp| *stamp = 0),
+        13 => parts.revisions.iter_mut().for_each(|word| *word = revision(numbers)),
+        14 => parts.presence_revisions.iter_mut().for_each(|word| *word = revision(numbers)),
+        15 => parts.presence = presence(numbers, parts.presence.len()),
+        16 => {
+            let stamps = [0, 1, START, START + 9, u32::MAX];
+            parts.presence_stamps.iter_mut().for_each(|stamp| *stamp = numbers.of(&stamps));
+            parts.presence = presence(numbers, parts.presence.len());
         }
-        18 => parts.presence_revisions.iter_mut().for_each(|word| *word = revision(numbers)),
-        19 | 20 => parts.presence = presence(numbers, parts.presence.len()),
-        21 => {
+        17 => {
             let word = numbers.word();
             spoil(numbers, &mut parts.index, word);
         }
@@ -300,7 +305,8 @@ fn message(numbers: &mut Numbers, lent: &Lent) -> Message {
         ride,
         revision: match numbers.below(6) {
             0 => last_revision,
-            1 => last_revision.saturating_add(1),
+            1 if last_revision > 255 => last_revision % 256 + 1,
+            1 => last_revision + 1,
             _ => revision(numbers),
         },
         stamp: match numbers.below(30) {
@@ -383,7 +389,7 @@ pub fn sequence<B: Library>(compared: &mut Compared<B>, numbers: &mut Numbers, s
     let pairs = table(numbers, n, m);
     let mut board = lent(numbers, n, m, &pairs);
     let start = if numbers.one_in(20) { 0 } else { START };
-    if numbers.one_in(6) {
+    if numbers.one_in(4) {
         let mut damaged = board.clone();
         damage(numbers, &mut damaged);
         compared.build(&mut damaged, start);
@@ -391,7 +397,7 @@ pub fn sequence<B: Library>(compared: &mut Compared<B>, numbers: &mut Numbers, s
     compared.build(&mut board, start);
     for _ in 0..size.calls() {
         let kept = board.clone();
-        let damaged = numbers.one_in(6);
+        let damaged = numbers.one_in(4);
         if damaged {
             damage(numbers, &mut board);
         }

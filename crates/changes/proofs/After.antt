@@ -16,7 +16,7 @@ use Rattle.model.proofs.Pairs.{Pairs, pairs-fit, pairs-count, pairs-operators, 
 use Rattle.pairs.specs.Accepted.{AcceptedPairs}
 use Rattle.pairs.specs.Place.{FirstPlace}
 use Rattle.shifts.specs.Shift.{Inserted, Removed, Shifted}
-use Rattle.changes.specs.Change.{with-pair, graph-with, count-after, Changed}
+use Rattle.changes.specs.Change.{with-pair, graph-with, count-after, Arrays}
 use Rattle.pairs.proofs.Place.{number, held, room, listed-first, stands-listed, unlisted-behind}
 use Rattle.shifts.proofs.Words.{drop-more, padded-done}
 
@@ -241,7 +241,7 @@ module _ (h : Head) (operators rides : List ℕ) (ok : AcceptedPairs h operators
           (λ e t k. drop-more l′ l (h .pairs) (pair-places h) full (s .less (omega arith) .rest))
           (λ e k. ap (drop (pair-places h)) (s .same e))
 
-      pub changed-all : n ≤ length operators′ → n ≤ length rides′ → (operators″ rides″ : List ℕ) → operators″ ≡ over (take n operators′ ++ replicate (pair-places h - n) 0) operators′ → rides″ ≡ over (take n rides′ ++ replicate (pair-places h - n) 0) rides′ → Changed h operators rides u v to n operators″ rides″
+      pub changed-all : n ≤ length operators′ → n ≤ length rides′ → (operators″ rides″ : List ℕ) → operators″ ≡ over (take n operators′ ++ replicate (pair-places h - n) 0) operators′ → rides″ ≡ over (take n rides′ ++ replicate (pair-places h - n) 0) rides′ → Arrays h after operators rides n operators″ rides″
       changed-all b c operators″ rides″ d e =
           let count = pairs-count after n operators′ rides′ pairs-after in
           let words : (ℕ → ℕ) → List ℕ = λ f. map f (pair-numbers after) in

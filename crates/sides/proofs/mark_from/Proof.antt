@@ -1,15 +1,14 @@
 -- `sides::mark_from` meets its contract. The loop's invariant: the marks below i are set and counted. Assumes nothing.
 use borrow.Author.Needs.{needs}
-use mathlib.Core.Path.{_≡_, refl, subst}
+use mathlib.Core.Path.{_≡_, refl, ap}
 use mathlib.Core.Bool.{Bool, _&&_}
 use mathlib.Core.List.{List}
 use Prim.Native.Nat.{ℕ, suc, _≤_, _-_}
 use native.Mathlib.Omega.{arith}
-use lib.Dec.{ltb}
+use lib.Dec.{ltb, leb}
 use lib.ListN.{length, getD, length-set}
 use Rattle.model.specs.Graph.{present}
-use Rattle.sides.specs.Marked.{Marked}
-use Rattle.sides.proofs.Marked.{Upto, upto-none, upto-more, upto-few}
+use Rattle.sides.proofs.Marked.{Upto, upto-none, upto-more, upto-few, upto-marked}
 use Rattle.sides.proofs.mark_from.Statement.{statement}
 use Rattle.sides.proofs.mark_from.Tie as tie
 
@@ -70,10 +69,8 @@ returns : tie.Need-returns Inv-loop μ-loop
 returns c = let s = c .before .before .before .before .before in
     let a = s .args in
     let l = c .before .loop in
-    let e : l .i ≡ length (a .levels .now) = omega (arith, s .pre) in
     let b : suc (a .least - 1) ≡ a .least = omega (arith, s .pre) in
-    let u = rw e at (l .inv .3) in
-    subst (λ (z : ℕ). Marked (a .levels .now) (a .presence .now) z (l .count) (l .marks)) b (record { marks-are = u .marks-are; counted = u .counted })
+    upto-marked (a .levels .now) (a .presence .now) (a .least) _ _ _ _ (omega (arith, s .pre)) (λ k h. ap (λ (z : ℕ). present (a .presence .now) k && leb z (getD (a .levels .now) k 0)) b) (l .inv .3)
 
 pub mark-from-spec : {M : Type 1} → statement M
 mark-from-spec =

@@ -1,12 +1,13 @@
 -- `sides::mark_present` meets its contract. The loop's invariant: the marks below i are set and counted. Assumes nothing.
 use borrow.Author.Needs.{needs}
-use mathlib.Core.Path.{_≡_, refl, sym, ap, _∙_}
+use mathlib.Core.Path.{_≡_, refl, sym, ap}
 use mathlib.Core.Bool.{Bool, true, _&&_}
-use Prim.Native.Nat.{ℕ, _≤_, _-_}
+use Prim.Native.Nat.{_≤_, _-_}
 use native.Mathlib.Omega.{arith}
+use borrow.Author.Tests.{le-leb}
 use lib.ListN.{length, getD, length-set}
 use Rattle.model.specs.Graph.{present}
-use Rattle.sides.proofs.Marked.{Upto, upto-none, upto-more, upto-few}
+use Rattle.sides.proofs.Marked.{Upto, upto-none, upto-more, upto-few, upto-marked}
 use Rattle.sides.proofs.mark_present.Statement.{statement}
 use Rattle.sides.proofs.mark_present.Tie as tie
 
@@ -51,7 +52,11 @@ same-length : tie.Need-same-length Inv-loop μ-loop
 same-length c = search needs
 
 returns : tie.Need-returns Inv-loop μ-loop
-returns c = ?
+returns c = let s = c .before .before .before .before in
+    let a = s .args in
+    let l = c .before .loop in
+    λ levels e.
+    upto-marked levels (a .presence .now) 0 _ _ _ _ (omega (arith, s .pre)) (λ k h. ap (λ (z : Bool). present (a .presence .now) k && z) (sym (le-leb 0 (getD levels k 0) (omega arith)))) (l .inv .3)
 
 pub mark-present-spec : {M : Type 1} → statement M
 mark-present-spec =
