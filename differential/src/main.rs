@@ -3,6 +3,8 @@
 mod compared;
 #[cfg(test)]
 mod faults;
+#[cfg(test)]
+mod faulty;
 mod numbers;
 mod sequences;
 

@@ -3,9 +3,8 @@
 use crate::compared::{Compared, Lent, LIST_MOST, MARKS_MOST, MOST};
 use crate::numbers::Numbers;
 use differential::Library;
-use reference::{
-    Head, Lengths, Message, Vectors, GRANT, OPERATOR_OFF, OPERATOR_ON, PRESENT, RIDE_IN, RIDE_OUT, WITHDRAWAL,
-};
+use reference::{Head, Lengths, Message, Vectors};
+use reference::{GRANT, OPERATOR_OFF, OPERATOR_ON, PRESENT, RIDE_IN, RIDE_OUT, WITHDRAWAL};
 use std::collections::BTreeMap;
 
 const START: u32 = 100;
@@ -134,9 +133,9 @@ fn resize_part(numbers: &mut Numbers, parts: &mut Vectors, part: usize) {
     }
 }
 
-/// Cuts one of the parts to one place less than it needs, where it needs any.
+/// Cuts one of the parts that needs places to one place less.
 fn shorten_part(head: Head, parts: &mut Vectors, part: usize) {
-    let places = head.lengths().list()[part].saturating_sub(1);
+    let places = head.lengths().list()[part] - 1;
     match part {
         0 => parts.operators.truncate(places),
         1 => parts.rides.truncate(places),
@@ -154,6 +153,14 @@ fn spoil(numbers: &mut Numbers, part: &mut [u16], word: u16) {
     if !part.is_empty() {
         part[numbers.below(part.len())] = word;
     }
+}
+
+/// Gives operators and rides other stamps, revisions and words.
+fn change_lasts(numbers: &mut Numbers, parts: &mut Vectors) {
+    let stamps = [0, 1, START, START + 9, START + 20, u32::MAX];
+    parts.presence_stamps.iter_mut().for_each(|stamp| *stamp = numbers.of(&stamps));
+    parts.presence_revisions.iter_mut().for_each(|word| *word = revision(numbers));
+    parts.presence = presence(numbers, parts.presence.len());
 }
 
 /// Damages one thing of a board.
@@ -197,11 +204,7 @@ fn damage(numbers: &mut Numbers, lent: &mut Lent) {
         13 => parts.revisions.iter_mut().for_each(|word| *word = revision(numbers)),
         14 => parts.presence_revisions.iter_mut().for_each(|word| *word = revision(numbers)),
         15 => parts.presence = presence(numbers, parts.presence.len()),
-        16 => {
-            let stamps = [0, 1, START, START + 9, u32::MAX];
-            parts.presence_stamps.iter_mut().for_each(|stamp| *stamp = numbers.of(&stamps));
-            parts.presence = presence(numbers, parts.presence.len());
-        }
+        16 => change_lasts(numbers, parts),
         17 => {
             let word = numbers.word();
             spoil(numbers, &mut parts.index, word);
@@ -279,8 +282,8 @@ fn last(lent: &Lent, kind: u16, operator: u16, ride: u16) -> (u32, u16) {
     }
 }
 
-/// A message, mostly valid, in three of five cases for a pair. Its stamp is often that of its last or near those of others,
-/// and so is its revision.
+/// A message, mostly valid, in three of five cases for a pair. Its stamp is often that of its pair's, operator's or ride's
+/// last or near those of others, and so is its revision; in one of six both are those of the last.
 fn message(numbers: &mut Numbers, lent: &Lent) -> Message {
     let number = |numbers: &mut Numbers, size: u16| match numbers.below(30) {
         0 => size,
@@ -298,25 +301,22 @@ fn message(numbers: &mut Numbers, lent: &Lent) -> Message {
         if matches!(kind, RIDE_IN | RIDE_OUT) { unused(numbers) } else { number(numbers, lent.head.operators) };
     let ride =
         if matches!(kind, OPERATOR_ON | OPERATOR_OFF) { unused(numbers) } else { number(numbers, lent.head.rides) };
-    let (last_stamp, last_revision) = last(lent, kind, operator, ride);
-    Message {
-        kind,
-        operator,
-        ride,
-        revision: match numbers.below(6) {
-            0 => last_revision,
-            1 if last_revision > 255 => last_revision % 256 + 1,
-            1 => last_revision + 1,
-            _ => revision(numbers),
-        },
-        stamp: match numbers.below(30) {
-            0 => 0,
-            1 => u32::MAX,
-            2 => numbers.next() as u32,
-            3..=11 => last_stamp,
-            _ => START - 3 + numbers.below(40) as u32,
-        },
-    }
+    let last = last(lent, kind, operator, ride);
+    let revision = match numbers.below(6) {
+        0 => last.1,
+        1 if last.1 > 255 => last.1 % 256 + 1,
+        1 => last.1 + 1,
+        _ => revision(numbers),
+    };
+    let stamp = match numbers.below(30) {
+        0 => 0,
+        1 => u32::MAX,
+        2 => numbers.next() as u32,
+        3..=11 => last.0,
+        _ => START - 3 + numbers.below(40) as u32,
+    };
+    let (stamp, revision) = if numbers.one_in(6) { last } else { (stamp, revision) };
+    Message { kind, operator, ride, revision, stamp }
 }
 
 /// The kinds of a message, those of a pair three times.
@@ -395,6 +395,9 @@ pub fn sequence<B: Library>(compared: &mut Compared<B>, numbers: &mut Numbers, s
         compared.build(&mut damaged, start);
     }
     compared.build(&mut board, start);
+    if numbers.one_in(2) {
+        change_lasts(numbers, &mut board.parts);
+    }
     for _ in 0..size.calls() {
         let kept = board.clone();
         let damaged = numbers.one_in(4);

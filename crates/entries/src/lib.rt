@@ -22,6 +22,8 @@ fn enter_pair(
         ⌝ }
     ensures { λ r. ⌜
         ((index stamps′ revisions′ presence : List ℕ) →
+        Enters (lent head (now (operators .entry)) (now (rides .entry)) (now (stamps .entry)) (now (revisions .entry)) index stamps′ revisions′ presence)
+        message →
         lent (with-pairs head r) (now (operators .exit)) (now (rides .exit)) (now (stamps .exit)) (now (revisions .exit)) index stamps′ revisions′ presence
         ≡ entered (lent head (now (operators .entry)) (now (rides .entry)) (now (stamps .entry)) (now (revisions .entry)) index
         stamps′ revisions′ presence) message)

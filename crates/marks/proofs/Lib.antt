@@ -1,3 +1,3 @@
+pub mod Part
 pub mod Sides
 pub mod Both
-pub mod Zeros

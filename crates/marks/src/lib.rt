@@ -90,11 +90,11 @@ pub fn mark_zeros(
 {
     let n = operators as usize;
     let w = n + rides as usize;
-    let operators = sides::mark_zeros(&presence[0..n], operator_least, &mut marks[0..n]);
-    let rides = sides::mark_zeros(&presence[n..w], ride_least, &mut marks[n..w]);
+    let marked_operators = sides::mark_zeros(&presence[0..n], operator_least, &mut marks[0..n]);
+    let marked_rides = sides::mark_zeros(&presence[n..w], ride_least, &mut marks[n..w]);
     Counts {
         code: 0,
-        operators,
-        rides,
+        operators: marked_operators,
+        rides: marked_rides,
     }
 }

@@ -18,7 +18,8 @@ use Rattle.model.specs.Layout.{over, pair-at, listed, sized, graph}
 use Rattle.model.specs.Refusal.{before, unordered, out-of-range, misplaced, refused-5}
 use Rattle.model.specs.Contents.{pair-numbers, padded}
 use Rattle.model.specs.Demand.{changed}
-use Rattle.model.proofs.Count.{by-test, test-true, test-false, test-ext, and-left, and-right, and-both, or-left, or-right, or-cases, count-le, some-holds, some-witness, some-ext, length-values, values-ext, length-rows, getD-rows}
+use Rattle.model.proofs.Count.{by-test, test-true, test-false, test-ext, and-left, and-right, and-both, or-left, or-right, or-cases, count-le, some-holds, some-witness, some-ext, length-values, getD-values, values-ext, length-rows, getD-rows}
+use Rattle.model.proofs.Store.{over-is}
 
 -- ---- the numbers that pass a test
 
@@ -211,6 +212,13 @@ pub rows-over : (k w : ℕ) (f : ℕ → ℕ → ℕ) (l old : List ℕ) → k *
 rows-over k w f l old long values rest =
     let first = rows-only k w f (take (k * w) l) (length-take-le (k * w) l long) (λ i j a b. getD-take (k * w) l (i * w + j) 0 (digits-lt a b) ∙ values i j a b) in
     sym (take-append-drop (k * w) l) ∙ ap₂ (λ (x y : List ℕ). x ++ y) first rest ∙ ap (λ (n : ℕ). rows k w f ++ drop n old) (sym (length-rows w f k))
+
+-- a list with these values at its first places, and behind them the words of an old one, is made of them over it
+pub values-over : (k : ℕ) (f : ℕ → ℕ) (l old : List ℕ) → k ≤ length l → ((x : ℕ) → x < k → getD l x 0 ≡ f x) → drop k l ≡ drop k old → l ≡ over (values k f) old
+values-over k f l old long same rest =
+    over-is l old (values k f) (omega (arith, length-values f k))
+    (λ x h. let b : x < k = omega (arith, length-values f k) in same x b ∙ sym (getD-values f k x 0 b))
+    (subst (λ (n : ℕ). drop n l ≡ drop n old) (sym (length-values f k)) rest)
 
 -- whether the pair of a number is cleared
 abbrev pub cleared-number : Graph → ℕ → Bool

@@ -2,9 +2,9 @@
 use borrow.Author.Needs.{needs}
 use borrow.Author.Tests.{eq-eqb, ne-eqb}
 use mathlib.Core.Logic.{⊎-elim}
-use mathlib.Core.Path.{sym, _∙_}
+use mathlib.Core.Path.{_≡_, sym, _∙_}
 use native.Mathlib.Omega.{arith}
-use Rattle.model.specs.Graph.{raised}
+use Rattle.model.specs.Graph.{limits, raised}
 use Rattle.model.proofs.Cover.{limits-operator, limits-ride}
 use Rattle.limits.proofs.node_limit.Statement.{statement}
 use Rattle.limits.proofs.node_limit.Tie as tie
@@ -14,8 +14,10 @@ cast-if1 c = search needs
 
 returns : tie.Need-returns
 unfolding raised
-returns c = rw (eq-eqb _ _ (c .if2 .taken), raised)
-    (⊎-elim (λ w. w .1 ∙ sym (limits-operator _ _ _ _ (w .0 .taken))) (λ w. w .1 ∙ sym (limits-ride _ _ _ _ (w .0 .left))) (c .before .if1 .came))
+returns c = let a = c .before .before .before .args in
+    let e : c .before .if1 .limit ≡ limits (a .head .operators) (a .alpha) (a .beta) (a .x) =
+    ⊎-elim (λ w. w .1 ∙ sym (limits-operator _ _ _ _ (w .0 .taken))) (λ w. w .1 ∙ sym (limits-ride _ _ _ _ (w .0 .left))) (c .before .if1 .came) in
+    rw (eq-eqb _ _ (c .if2 .taken), raised) e
 
 add-result : tie.Need-add-result
 add-result c = search needs

@@ -1,53 +1,97 @@
 -- `marks::mark_zeros` meets its contract. Assumes nothing.
 use borrow.Author.Needs.{needs}
+use Prim.Native.Nat.{ℕ, _+_}
 use native.Mathlib.Omega.{arith}
-use Rattle.marks.proofs.Zeros.{marks-few, zeros-done}
+use lib.ListN.{length-replicate}
+use Rattle.marks.proofs.Part.{zeros-part}
+use Rattle.marks.proofs.Sides.{sides-marked}
 use Rattle.marks.proofs.mark_zeros.Statement.{statement}
 use Rattle.marks.proofs.mark_zeros.Tie as tie
 
 add-w : tie.Need-add-w
 add-w c = search needs
 
-mark-zero-requires : tie.Need-mark-zero-requires
-mark-zero-requires c κs = search needs
+sub-mark-zeros : tie.Need-sub-mark-zeros
+sub-mark-zeros c = search needs
 
-mark-zero-requires-2 : tie.Need-mark-zero-requires-2
-mark-zero-requires-2 c κs = search needs
+part-mark-zeros-start : tie.Need-part-mark-zeros-start
+part-mark-zeros-start c = search needs
 
-fill-requires : tie.Need-fill-requires
-fill-requires c κs = search needs
+part-mark-zeros-end : tie.Need-part-mark-zeros-end
+part-mark-zeros-end c = search needs
 
-fill-requires-2 : tie.Need-fill-requires-2
-fill-requires-2 c κs = search needs
+sub-mark-zeros-2 : tie.Need-sub-mark-zeros-2
+sub-mark-zeros-2 c = search needs
 
-mul-t16 : tie.Need-mul-t16
-mul-t16 c =
-    let a = c .before .before .before .before .before .before .before .before .before .before .before .args in
-    omega (arith, marks-few (a .operators) _ (a .operator-least) (c .before .before .before .before .before .before .before .before .before .mark-zero .ensures))
+part-mark-zeros-start-2 : tie.Need-part-mark-zeros-start-2
+part-mark-zeros-start-2 c = search needs
 
-mul-t17 : tie.Need-mul-t17
-mul-t17 c =
-    let a = c .before .before .before .before .before .before .before .before .before .before .before .args in
-    omega (arith, marks-few (a .rides) _ (a .ride-least) (c .before .before .before .before .before .before .before .before .mark-zero2 .ensures))
+part-mark-zeros-end-2 : tie.Need-part-mark-zeros-end-2
+part-mark-zeros-end-2 c = search needs
+
+mark-zeros-requires : tie.Need-mark-zeros-requires
+mark-zeros-requires c κs = search needs
+
+mul-mark-zeros : tie.Need-mul-mark-zeros
+mul-mark-zeros c = search needs
+
+sub-mark-zeros-3 : tie.Need-sub-mark-zeros-3
+sub-mark-zeros-3 c = search needs
+
+part-mark-zeros-start-3 : tie.Need-part-mark-zeros-start-3
+part-mark-zeros-start-3 c = search needs
+
+part-mark-zeros-end-3 : tie.Need-part-mark-zeros-end-3
+part-mark-zeros-end-3 c = search needs
+
+mul-mark-zeros-2 : tie.Need-mul-mark-zeros-2
+mul-mark-zeros-2 c = search needs
+
+sub-mark-zeros-4 : tie.Need-sub-mark-zeros-4
+sub-mark-zeros-4 c = search needs
+
+part-mark-zeros-start-4 : tie.Need-part-mark-zeros-start-4
+part-mark-zeros-start-4 c = search needs
+
+part-mark-zeros-end-4 : tie.Need-part-mark-zeros-end-4
+part-mark-zeros-end-4 c = search needs
+
+mark-zeros-requires-2 : tie.Need-mark-zeros-requires-2
+mark-zeros-requires-2 c κs = search needs
 
 same-length : tie.Need-same-length
 same-length c = search needs
 
 returns : tie.Need-returns
-returns c = let s = c .before .before .before .before .before .before .before .before .before .before .before in
+returns c = let s = c .before .before .before .before .before .before .before .before .before .before .before .before in
     let a = s .args in
-    zeros-done (a .operators) (a .rides) (a .operator-least) (a .ride-least) (a .marks .now) (s .pre .2) _ _ _ _ (c .before .before .before .before .before .before .before .before .before .mark-zero .ensures) (c .before .before .before .before .before .before .before .before .mark-zero2 .ensures) (c .before .before .before .before .before .before .fill .ensures) (c .before .before .fill2 .ensures)
+    let v = c .before .before .before .before .before .before .before .mark-zeros in
+    let w = c .before .before .mark-zeros2 in
+    let nodes = a .operators + a .rides in
+    sides-marked _ (a .presence .now) (a .marks .now) (a .operators) nodes (a .operator-least) (a .ride-least) (length-replicate {A = ℕ} nodes 0) (omega arith) (s .pre .3)
+    (v .result) (v .last .1 .1 .0) (zeros-part nodes _ _ 0 _ _ _ (omega (arith, s .pre .2)) (v .ensures)) (omega arith)
+    (w .result) (w .last .1 .1 .0) (zeros-part nodes _ _ (a .operators) _ _ _ (omega (arith, s .pre .2)) (w .ensures)) (omega arith)
 
 pub mark-zeros-spec : {M : Type 1} → statement M
 mark-zeros-spec =
     tie.close
     (tie.spec
     add-w
-    mark-zero-requires
-    mark-zero-requires-2
-    fill-requires
-    fill-requires-2
-    mul-t16
-    mul-t17
+    sub-mark-zeros
+    part-mark-zeros-start
+    part-mark-zeros-end
+    sub-mark-zeros-2
+    part-mark-zeros-start-2
+    part-mark-zeros-end-2
+    mark-zeros-requires
+    mul-mark-zeros
+    sub-mark-zeros-3
+    part-mark-zeros-start-3
+    part-mark-zeros-end-3
+    mul-mark-zeros-2
+    sub-mark-zeros-4
+    part-mark-zeros-start-4
+    part-mark-zeros-end-4
+    mark-zeros-requires-2
     same-length
     returns)
