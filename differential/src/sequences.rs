@@ -383,22 +383,24 @@ fn asked(numbers: &mut Numbers, board: &Lent) -> Lent {
     asked
 }
 
-/// A board that is built, and then queried, peeled, sent messages and previewed; some calls are given damaged input.
+/// A board that is built, and then queried, peeled, sent messages and previewed; some calls are given damaged input. In half
+/// of the sequences operators and rides get other stamps, revisions and words now and then.
 pub fn sequence<B: Library>(compared: &mut Compared<B>, numbers: &mut Numbers, size: Size) {
     let (n, m) = size.numbers(numbers);
     let pairs = table(numbers, n, m);
     let mut board = lent(numbers, n, m, &pairs);
     let start = if numbers.one_in(20) { 0 } else { START };
-    if numbers.one_in(4) {
+    if numbers.one_in(2) {
         let mut damaged = board.clone();
         damage(numbers, &mut damaged);
         compared.build(&mut damaged, start);
     }
     compared.build(&mut board, start);
-    if numbers.one_in(2) {
-        change_lasts(numbers, &mut board.parts);
-    }
+    let has_other_lasts = numbers.one_in(2);
     for _ in 0..size.calls() {
+        if has_other_lasts && numbers.one_in(6) {
+            change_lasts(numbers, &mut board.parts);
+        }
         let kept = board.clone();
         let damaged = numbers.one_in(4);
         if damaged {
