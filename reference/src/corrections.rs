@@ -1,15 +1,7 @@
 //! Document 02's corrections within one stamp, worked out by hand on document 01's board of `samples::PAIRS`, built at 5.
 
-use crate::samples::{Pair, PAIRS};
+use crate::samples::{head, Pair, BUILT, PAIRS, START};
 use crate::{Head, Message, GRANT, WITHDRAWAL};
-
-/// The board's head, and its starting stamp.
-const BUILT: Head = head(4, 3, 7);
-pub const START: u32 = 5;
-
-const fn head(operators: u16, rides: u16, pairs: u16) -> Head {
-    Head { operators, rides, pairs }
-}
 
 /// What decides which of two messages for one pair is later: kind, revision and stamp.
 pub type Entry = (u16, u16, u32);

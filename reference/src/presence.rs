@@ -1,16 +1,8 @@
 //! Document 02's operators who have gone home and rides out of service, worked out by hand on document 01's board of
 //! `samples::PAIRS`, built at 5.
 
-use crate::samples::{Pair, PAIRS};
+use crate::samples::{head, Pair, BUILT, PAIRS};
 use crate::{Head, Message, GRANT, OPERATOR_OFF, OPERATOR_ON, RIDE_IN, RIDE_OUT, WITHDRAWAL};
-
-/// The board's head, and its starting stamp.
-pub const BUILT: Head = head(4, 3, 7);
-pub const START: u32 = 5;
-
-const fn head(operators: u16, rides: u16, pairs: u16) -> Head {
-    Head { operators, rides, pairs }
-}
 
 const fn message(kind: u16, operator: u16, ride: u16, revision: u16, stamp: u32) -> Message {
     Message { kind, operator, ride, revision, stamp }
@@ -45,7 +37,7 @@ const ALL_AND_3_1: Rows = [[4, 4, 4, 4, 2, 4, 2], [2; 7]];
 /// (0, 0), (0, 1), (1, 0), (1, 1), (2, 2), (3, 2) count. Each ride has two operators, operators 2 and 3 have one ride.
 const ALL_BUT_2_1: Rows = [[2; 7], [2, 2, 0, 0, 2, 2, 0]];
 
-pub const NO_ROWS: Rows = [[0; 7]; 2];
+const NO_ROWS: Rows = [[0; 7]; 2];
 
 // Messages that change who is on and in
 

@@ -9,6 +9,14 @@ pub type Pair = (u16, u16);
 /// 2, 3, 2 operators. Row 1 is 3 3 3 2, then 2 3 2; row 2 is 2 2 1 0, then 2 2 1; row 3 is all 0.
 pub const PAIRS: [Pair; 7] = [(0, 0), (0, 1), (1, 0), (1, 1), (2, 1), (2, 2), (3, 2)];
 
+/// The head of that board, and the stamp that it is built at where messages follow.
+pub const BUILT: Head = head(4, 3, 7);
+pub const START: u32 = 5;
+
+pub const fn head(operators: u16, rides: u16, pairs: u16) -> Head {
+    Head { operators, rides, pairs }
+}
+
 /// A board, limits, and who is in.
 pub struct Sample {
     pub operators: u16,

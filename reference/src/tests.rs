@@ -1,10 +1,10 @@
 //! The samples of documents 01 and 02, and the definitions against what they say of every set.
 
-use super::corrections::{Corrections, BESIDE_14, CORRECTIONS, SHORT_REVISIONS, START};
+use super::corrections::{Corrections, BESIDE_14, CORRECTIONS, SHORT_REVISIONS};
 use super::presence::{Delivery, Node, Rows, Turns, Words, BEFORE_15, BESIDE_15, BESIDE_6, BUILT_OVER, DELIVERIES};
 use super::presence::{ALL_COUNT, NODES, ONE_SIDED, OTHERS, PEELS, QUERIES, SHORT_PRESENCE, TURNS};
 use super::presence::{UNSTAMPED, WORDS_BESIDE_6};
-use super::samples::{BY_NO_INDEX, LIMITS_FROM_0, NO_INDEX, PAIRS, PEELS_FROM_0, SHORT_FROM_0};
+use super::samples::{BY_NO_INDEX, LIMITS_FROM_0, NO_INDEX, PAIRS, PEELS_FROM_0, SHORT_FROM_0, START};
 use super::*;
 
 /// Memory for a board, longer by two places in each part than it needs.
@@ -608,6 +608,45 @@ fn peels_of_the_absent() {
         let Peeled { code, settled, steps } = with_presence(&words).peel(&mut left, alpha, beta, steps);
         assert_eq!(([code, settled, steps], left), (numbers, expected));
     }
+}
+
+/// The furthest that a level moves of somebody else than this operator or ride.
+fn furthest(before: &Store, after: &Store, node: usize) -> u16 {
+    let moved = before.parts.index.iter().zip(&after.parts.index).map(|(before, after)| before.abs_diff(*after));
+    let others = moved.enumerate().filter(|(place, _)| place % before.head.nodes() != node);
+    others.map(|(_, moved)| moved).max().unwrap()
+}
+
+/// On every table of 3 by 3, with everybody on and in and with operator 0 off: a clearance or an operator's coming or going
+/// moves the levels of all but that operator by one at most. A ride's going moves others further.
+#[test]
+fn levels_move_by_one() {
+    let mut by_rides = 0;
+    for (table, is_off) in (0..512).flat_map(|table| [(table, false), (table, true)]) {
+        let places = (0..9u16).filter(|place| table >> place & 1 == 1);
+        let pairs: Vec<(u16, u16)> = places.map(|place| (place / 3, place % 3)).collect();
+        let mut board = Store::new(3, 3, &pairs);
+        assert_eq!(board.build(5), 0);
+        if is_off {
+            absent(&mut board, 0);
+        }
+        let moved = |kind, operator, ride, node| {
+            let mut after = board.clone();
+            assert_eq!(after.message(unrevised(kind, operator, ride, 10)).code, 0);
+            furthest(&board, &after, node)
+        };
+        for operator in 0..3 {
+            let node = operator as usize;
+            for kind in [OPERATOR_ON, OPERATOR_OFF] {
+                assert!(moved(kind, operator, 0, node) <= 1);
+            }
+            for ride in 0..3 {
+                assert!(moved(GRANT, operator, ride, node) <= 1 && moved(WITHDRAWAL, operator, ride, node) <= 1);
+            }
+        }
+        by_rides = (0..3).map(|ride| moved(RIDE_OUT, 0, ride, 3 + ride as usize)).fold(by_rides, u16::max);
+    }
+    assert!(by_rides > 1);
 }
 
 // Demand 3 on small boards

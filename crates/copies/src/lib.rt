@@ -45,12 +45,13 @@ pub fn copy_board(
     let n = head.operators as usize;
     let m = head.rides as usize;
     let places = n * m;
+    let nodes = n + m;
     words::copy(operators, spare_operators, places);
     words::copy(rides, spare_rides, places);
     words::copy_stamps(stamps, spare_stamps, places);
     words::copy(revisions, spare_revisions, places);
-    words::copy(index, spare_index, m * (n + m));
-    words::copy_stamps(presence_stamps, spare_presence_stamps, n + m);
-    words::copy(presence_revisions, spare_presence_revisions, n + m);
-    words::copy(presence, spare_presence, n + m);
+    words::copy(index, spare_index, m * nodes);
+    words::copy_stamps(presence_stamps, spare_presence_stamps, nodes);
+    words::copy(presence_revisions, spare_presence_revisions, nodes);
+    words::copy(presence, spare_presence, nodes);
 }

@@ -38,8 +38,9 @@ fn fill_taken(
         ⌝ }
     ensures { λ _. ⌜
         now (index .exit)
-        ≡ filled-index (length (now (numbers .entry))) (counting-graph head (now (operators .entry)) (now (rides .entry)) (now (presence .entry))) (now (index .entry))
-        (now (numbers .entry))
+        ≡ filled-index (length (now (numbers .entry)))
+        (counting-graph head (now (operators .entry)) (now (rides .entry)) (now (presence .entry)))
+        (now (index .entry)) (now (numbers .entry))
         ⌝ }
 {
     if any_taken(numbers) {
@@ -67,7 +68,8 @@ pub fn finish(
         ⌝ }
     ensures { λ _. ⌜
         now (index .exit)
-        ≡ index-turned at n (counting-graph head (now (operators .entry)) (now (rides .entry)) (now (presence .entry))) (now (index .entry)) (now (numbers .entry))
+        ≡ index-turned at n (counting-graph head (now (operators .entry)) (now (rides .entry)) (now (presence .entry)))
+        (now (index .entry)) (now (numbers .entry))
         ⌝ }
 {
     if at + 1 == n {

@@ -68,7 +68,7 @@ module _ (b : Board) (m : Message) (none : message-refusal b m ≡ 0) where
       let new : List ℕ = words (b .head) after Index in
       let filled = i ∙ ap (λ (y : Board). over (index-of (board-graph y)) (b .part Index)) q ∙ ap (λ (l : List ℕ). over l (b .part Index)) index-after in
       let counted =
-          d ∙ ap (λ (y : Board). differing (index-places (y .head)) (b .part Index) (index-of (board-graph y))) q ∙ ap (differing (index-places (b .head)) (b .part Index)) index-after ∙
-          sym (differing-over new (omega (arith, length-words (b .head) after Index))) in
+      d ∙ ap (λ (y : Board). differing (index-places (y .head)) (b .part Index) (index-of (board-graph y))) q ∙ ap (differing (index-places (b .head)) (b .part Index)) index-after ∙
+      sym (differing-over new (omega (arith, length-words (b .head) after Index))) in
       ap₂ (λ (n : ℕ) (y : Board). answered (record { code = 0; differ = n }) y) counted (ap₂ with-index q filled ∙ whole) ∙
       sym (message-taken b m none)

@@ -2,13 +2,11 @@
 //! `replay_deliveries` and `replay_cover` of the folder named by its first argument. The same seed gives the same files;
 //! a second argument is a seed other than that of the stored files.
 
-use reference::corrections::{Corrections, BESIDE_14, CORRECTIONS, SHORT_REVISIONS, START};
+use reference::corrections::{Corrections, BESIDE_14, CORRECTIONS, SHORT_REVISIONS};
 use reference::frames::{replay_cover, write_end, Call, Framed, Memory, Outcome, Part, Reference, PLACES};
-use reference::presence::{
-    Delivery, Last, Words, BEFORE_15, BESIDE_15, BESIDE_6, BUILT, BUILT_OVER, DELIVERIES, NODES,
-};
+use reference::presence::{Delivery, Last, Words, BEFORE_15, BESIDE_15, BESIDE_6, BUILT_OVER, DELIVERIES, NODES};
 use reference::presence::{ONE_SIDED, OTHERS, PEELS, QUERIES, SHORT_PRESENCE, TURNS, UNSTAMPED, WORDS_BESIDE_6};
-use reference::samples::{Pair, BY_NO_INDEX, LIMITS_FROM_0, NO_INDEX, PAIRS, PEELS_FROM_0, SHORT_FROM_0};
+use reference::samples::{Pair, BUILT, BY_NO_INDEX, LIMITS_FROM_0, NO_INDEX, PAIRS, PEELS_FROM_0, SHORT_FROM_0, START};
 use reference::{
     cover, query, Head, Lengths, Message, Parts, Vectors, GRANT, OPERATOR_OFF, PRESENT, RIDE_OUT, WITHDRAWAL,
 };

@@ -24,8 +24,8 @@ same-length : tie.Need-same-length
 same-length c = search needs
 
 returns : tie.Need-returns
-returns c = let s = c .before .before .before .before .before .before .before .before .before .before in
-    c .before .before .fill-taken .ensures ∙ filled-part (s .args .n) _ _ _ (s .pre .3) ∙ sym (index-last _ _ _ _ _ (c .before .before .before .before .before .if1 .taken))
+returns c = let s = c .before .before .before .before .before .before .before .before .before .before .before in
+    c .before .before .fill-taken .ensures ∙ filled-part (s .args .n) _ _ _ (s .pre .4) ∙ sym (index-last _ _ _ _ _ (c .before .before .before .before .before .if1 .taken))
 
 returns-2 : tie.Need-returns-2
 returns-2 c = sym (index-on _ _ _ _ _ (c .if1 .left))

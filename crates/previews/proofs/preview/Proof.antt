@@ -26,35 +26,53 @@ same-length-4 c = refl
 same-length-5 : tie.Need-same-length-5
 same-length-5 c = refl
 
-returns : tie.Need-returns
-returns c = let a = c .before .before .before .before .before .before .before .before .before .before .before .before .before .before .before .before .before .args in sym (preview-kept (lent (a .head) (a .operators .now) (a .rides .now) (a .stamps .now) (a .revisions .now) (a .index .now)) (a .message) (lent (a .spare-head) (a .spare-operators .now) (a .spare-rides .now) (a .spare-stamps .now) (a .spare-revisions .now) (a .spare-index .now)) _ (sym (c .before .preview-number .ensures)) (omega arith))
-
-copy-board-requires : tie.Need-copy-board-requires
-copy-board-requires c κs = let a = c .before .before .before .before .before .before .before .before .before .before .before .before .before .before .before .before .before .before .before .before .before .before .args in
-    both-long (lent (a .head) (a .operators .now) (a .rides .now) (a .stamps .now) (a .revisions .now) (a .index .now)) (a .message) (lent (a .spare-head) (a .spare-operators .now) (a .spare-rides .now) (a .spare-stamps .now) (a .spare-revisions .now) (a .spare-index .now)) (sym (c .before .before .before .before .before .before .preview-number .ensures) ∙ (let z : c .before .before .before .before .before .before .preview-number .result ≡ 0 = omega (arith, c .before .before .before .before .before .if1 .left) in z))
-
-take-requires : tie.Need-take-requires
-take-requires c κs = let a = c .before .before .before .before .before .before .before .before .before .before .before .before .before .before .before .before .before .before .before .before .before .before .before .before .before .before .before .before .before .before .before .before .before .before .before .before .before .before .args in
-    copy-none (lent (a .head) (a .operators .now) (a .rides .now) (a .stamps .now) (a .revisions .now) (a .index .now)) (a .message) (lent (a .spare-head) (a .spare-operators .now) (a .spare-rides .now) (a .spare-stamps .now) (a .spare-revisions .now) (a .spare-index .now)) (sym (c .before .before .before .before .before .before .before .before .before .before .before .before .before .before .before .before .before .before .before .before .before .before .preview-number .ensures) ∙ (let z : c .before .before .before .before .before .before .before .before .before .before .before .before .before .before .before .before .before .before .before .before .before .before .preview-number .result ≡ 0 = omega (arith, c .before .before .before .before .before .before .before .before .before .before .before .before .before .before .before .before .before .before .before .before .before .if1 .left) in z)) _ (c .before .before .before .before .before .before .before .before .before .before .before .before .before .before .before .copy-board .ensures)
-
 same-length-6 : tie.Need-same-length-6
-same-length-6 c = c .before .before .before .before .before .before .before .before .before .spare-operators2 .given ∙ c .before .before .before .before .before .before .before .before .before .before .before .before .before .before .before .before .before .before .before .before .before .before .before .before .before .spare-operators .given
+same-length-6 c = refl
 
 same-length-7 : tie.Need-same-length-7
-same-length-7 c = c .before .before .before .before .before .before .before .spare-rides2 .given ∙ c .before .before .before .before .before .before .before .before .before .before .before .before .before .before .before .before .before .before .before .before .before .before .before .spare-rides .given
+same-length-7 c = refl
 
 same-length-8 : tie.Need-same-length-8
-same-length-8 c = c .before .before .before .before .before .spare-stamps2 .given ∙ c .before .before .before .before .before .before .before .before .before .before .before .before .before .before .before .before .before .before .before .before .before .spare-stamps .given
+same-length-8 c = refl
+
+returns : tie.Need-returns
+returns c = let a = c .before .before .before .before .before .before .before .before .before .before .before .before .before .before .before .before .before .before .before .before .before .before .before .before .before .before .args in sym (preview-kept (lent (a .head) (a .operators .now) (a .rides .now) (a .stamps .now) (a .revisions .now) (a .index .now) (a .presence-stamps .now) (a .presence-revisions .now) (a .presence .now)) (a .message) (lent (a .spare-head) (a .spare-operators .now) (a .spare-rides .now) (a .spare-stamps .now) (a .spare-revisions .now) (a .spare-index .now) (a .spare-presence-stamps .now) (a .spare-presence-revisions .now) (a .spare-presence .now)) _ (sym (c .before .preview-number .ensures)) (omega arith))
+
+copy-board-requires : tie.Need-copy-board-requires
+copy-board-requires c κs = let a = c .before .before .before .before .before .before .before .before .before .before .before .before .before .before .before .before .before .before .before .before .before .before .before .before .before .before .before .before .before .before .before .before .before .before .args in
+    both-long (lent (a .head) (a .operators .now) (a .rides .now) (a .stamps .now) (a .revisions .now) (a .index .now) (a .presence-stamps .now) (a .presence-revisions .now) (a .presence .now)) (a .message) (lent (a .spare-head) (a .spare-operators .now) (a .spare-rides .now) (a .spare-stamps .now) (a .spare-revisions .now) (a .spare-index .now) (a .spare-presence-stamps .now) (a .spare-presence-revisions .now) (a .spare-presence .now)) (sym (c .before .before .before .before .before .before .before .before .before .preview-number .ensures) ∙ (let z : c .before .before .before .before .before .before .before .before .before .preview-number .result ≡ 0 = omega (arith, c .before .before .before .before .before .before .before .before .if1 .left) in z))
+
+take-requires : tie.Need-take-requires
+take-requires c κs = let a = c .before .before .before .before .before .before .before .before .before .before .before .before .before .before .before .before .before .before .before .before .before .before .before .before .before .before .before .before .before .before .before .before .before .before .before .before .before .before .before .before .before .before .before .before .before .before .before .before .before .before .before .before .before .before .before .before .before .before .before .args in
+    copy-none (lent (a .head) (a .operators .now) (a .rides .now) (a .stamps .now) (a .revisions .now) (a .index .now) (a .presence-stamps .now) (a .presence-revisions .now) (a .presence .now)) (a .message) (lent (a .spare-head) (a .spare-operators .now) (a .spare-rides .now) (a .spare-stamps .now) (a .spare-revisions .now) (a .spare-index .now) (a .spare-presence-stamps .now) (a .spare-presence-revisions .now) (a .spare-presence .now)) (sym (c .before .before .before .before .before .before .before .before .before .before .before .before .before .before .before .before .before .before .before .before .before .before .before .before .before .before .before .before .before .before .before .before .before .before .preview-number .ensures) ∙ (let z : c .before .before .before .before .before .before .before .before .before .before .before .before .before .before .before .before .before .before .before .before .before .before .before .before .before .before .before .before .before .before .before .before .before .before .preview-number .result ≡ 0 = omega (arith, c .before .before .before .before .before .before .before .before .before .before .before .before .before .before .before .before .before .before .before .before .before .before .before .before .before .before .before .before .before .before .before .before .before .if1 .left) in z)) _ (c .before .before .before .before .before .before .before .before .before .before .before .before .before .before .before .before .before .before .before .before .before .before .before .before .copy-board .ensures)
 
 same-length-9 : tie.Need-same-length-9
-same-length-9 c = c .before .before .before .spare-revisions2 .given ∙ c .before .before .before .before .before .before .before .before .before .before .before .before .before .before .before .before .before .before .before .spare-revisions .given
+same-length-9 c = c .before .before .before .before .before .before .before .before .before .before .before .before .before .before .before .spare-operators2 .given ∙ c .before .before .before .before .before .before .before .before .before .before .before .before .before .before .before .before .before .before .before .before .before .before .before .before .before .before .before .before .before .before .before .before .before .before .before .before .before .before .before .before .spare-operators .given
 
 same-length-10 : tie.Need-same-length-10
-same-length-10 c = c .before .spare-index2 .given ∙ c .before .before .before .before .before .before .before .before .before .before .before .before .before .before .before .before .before .spare-index .given
+same-length-10 c = c .before .before .before .before .before .before .before .before .before .before .before .before .before .spare-rides2 .given ∙ c .before .before .before .before .before .before .before .before .before .before .before .before .before .before .before .before .before .before .before .before .before .before .before .before .before .before .before .before .before .before .before .before .before .before .before .before .before .before .spare-rides .given
+
+same-length-11 : tie.Need-same-length-11
+same-length-11 c = c .before .before .before .before .before .before .before .before .before .before .before .spare-stamps2 .given ∙ c .before .before .before .before .before .before .before .before .before .before .before .before .before .before .before .before .before .before .before .before .before .before .before .before .before .before .before .before .before .before .before .before .before .before .before .before .spare-stamps .given
+
+same-length-12 : tie.Need-same-length-12
+same-length-12 c = c .before .before .before .before .before .before .before .before .before .spare-revisions2 .given ∙ c .before .before .before .before .before .before .before .before .before .before .before .before .before .before .before .before .before .before .before .before .before .before .before .before .before .before .before .before .before .before .before .before .before .before .spare-revisions .given
+
+same-length-13 : tie.Need-same-length-13
+same-length-13 c = c .before .before .before .before .before .before .before .spare-index2 .given ∙ c .before .before .before .before .before .before .before .before .before .before .before .before .before .before .before .before .before .before .before .before .before .before .before .before .before .before .before .before .before .before .before .before .spare-index .given
+
+same-length-14 : tie.Need-same-length-14
+same-length-14 c = c .before .before .before .before .before .spare-presence-stamps2 .given ∙ c .before .before .before .before .before .before .before .before .before .before .before .before .before .before .before .before .before .before .before .before .before .before .before .before .before .before .before .before .before .before .spare-presence-stamps .given
+
+same-length-15 : tie.Need-same-length-15
+same-length-15 c = c .before .before .before .spare-presence-revisions2 .given ∙ c .before .before .before .before .before .before .before .before .before .before .before .before .before .before .before .before .before .before .before .before .before .before .before .before .before .before .before .before .spare-presence-revisions .given
+
+same-length-16 : tie.Need-same-length-16
+same-length-16 c = c .before .spare-presence2 .given ∙ c .before .before .before .before .before .before .before .before .before .before .before .before .before .before .before .before .before .before .before .before .before .before .before .before .before .before .spare-presence .given
 
 returns-2 : tie.Need-returns-2
-returns-2 c = let a = c .before .before .before .before .before .before .before .before .before .before .before .before .before .before .before .before .before .before .before .before .before .before .before .before .before .before .before .before .before .before .before .before .before .before .before .before .before .before .before .before .before .before .before .before .before .before .before .before .before .args in
-    taken-there (lent (a .head) (a .operators .now) (a .rides .now) (a .stamps .now) (a .revisions .now) (a .index .now)) (a .message) (lent (a .spare-head) (a .spare-operators .now) (a .spare-rides .now) (a .spare-stamps .now) (a .spare-revisions .now) (a .spare-index .now)) (sym (c .before .before .before .before .before .before .before .before .before .before .before .before .before .before .before .before .before .before .before .before .before .before .before .before .before .before .before .before .before .before .before .before .before .preview-number .ensures) ∙ (let z : c .before .before .before .before .before .before .before .before .before .before .before .before .before .before .before .before .before .before .before .before .before .before .before .before .before .before .before .before .before .before .before .before .before .preview-number .result ≡ 0 = omega (arith, c .before .before .before .before .before .before .before .before .before .before .before .before .before .before .before .before .before .before .before .before .before .before .before .before .before .before .before .before .before .before .before .before .if1 .left) in z)) _ (c .before .before .before .before .before .before .before .before .before .before .before .before .before .before .before .before .before .before .before .before .before .before .before .before .before .before .copy-board .ensures) _ (c .before .before .before .before .before .before .before .before .before .before .take .ensures)
+returns-2 c = let a = c .before .before .before .before .before .before .before .before .before .before .before .before .before .before .before .before .before .before .before .before .before .before .before .before .before .before .before .before .before .before .before .before .before .before .before .before .before .before .before .before .before .before .before .before .before .before .before .before .before .before .before .before .before .before .before .before .before .before .before .before .before .before .before .before .before .before .before .before .before .before .before .before .before .before .before .before .args in
+    taken-there (lent (a .head) (a .operators .now) (a .rides .now) (a .stamps .now) (a .revisions .now) (a .index .now) (a .presence-stamps .now) (a .presence-revisions .now) (a .presence .now)) (a .message) (lent (a .spare-head) (a .spare-operators .now) (a .spare-rides .now) (a .spare-stamps .now) (a .spare-revisions .now) (a .spare-index .now) (a .spare-presence-stamps .now) (a .spare-presence-revisions .now) (a .spare-presence .now)) (sym (c .before .before .before .before .before .before .before .before .before .before .before .before .before .before .before .before .before .before .before .before .before .before .before .before .before .before .before .before .before .before .before .before .before .before .before .before .before .before .before .before .before .before .before .before .before .before .before .before .before .before .before .preview-number .ensures) ∙ (let z : c .before .before .before .before .before .before .before .before .before .before .before .before .before .before .before .before .before .before .before .before .before .before .before .before .before .before .before .before .before .before .before .before .before .before .before .before .before .before .before .before .before .before .before .before .before .before .before .before .before .before .before .preview-number .result ≡ 0 = omega (arith, c .before .before .before .before .before .before .before .before .before .before .before .before .before .before .before .before .before .before .before .before .before .before .before .before .before .before .before .before .before .before .before .before .before .before .before .before .before .before .before .before .before .before .before .before .before .before .before .before .before .before .if1 .left) in z)) _ (c .before .before .before .before .before .before .before .before .before .before .before .before .before .before .before .before .before .before .before .before .before .before .before .before .before .before .before .before .before .before .before .before .before .before .before .before .before .before .before .before .before .copy-board .ensures) _ (c .before .before .before .before .before .before .before .before .before .before .before .before .before .before .before .before .take .ensures)
 
 pub preview-spec : {M : Type 1} → statement M
 preview-spec =
@@ -66,12 +84,18 @@ preview-spec =
     same-length-3
     same-length-4
     same-length-5
-    returns
-    copy-board-requires
-    take-requires
     same-length-6
     same-length-7
     same-length-8
+    returns
+    copy-board-requires
+    take-requires
     same-length-9
     same-length-10
+    same-length-11
+    same-length-12
+    same-length-13
+    same-length-14
+    same-length-15
+    same-length-16
     returns-2)

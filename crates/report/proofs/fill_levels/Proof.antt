@@ -1,6 +1,7 @@
 -- `report::fill_levels` meets its contract: tables of zeros are filled, and one row from them. Assumes nothing.
 use borrow.Author.Needs.{needs}
 use mathlib.Core.Path.{_∙_}
+use native.Mathlib.Omega.{arith}
 use Rattle.model.specs.Layout.{graph}
 use Rattle.tables.proofs.Held.{zero-tables}
 use Rattle.report.proofs.Filled.{held-row}
@@ -20,8 +21,11 @@ slice-aggregate-tabulate c = search needs
 slice-aggregate-tabulate-2 : tie.Need-slice-aggregate-tabulate-2
 slice-aggregate-tabulate-2 c = search needs
 
+slice-aggregate-tabulate-3 : tie.Need-slice-aggregate-tabulate-3
+slice-aggregate-tabulate-3 c = search needs
+
 tabulate-requires : tie.Need-tabulate-requires
-tabulate-requires c κs = (c .before .before .before .before .before .before .before .before .before .pre .0 .0, zero-tables)
+tabulate-requires c κs = let p = c .before .before .before .before .before .before .before .before .before .before .pre .0 .0 in (p, omega (arith, p .few-operators, p .few-rides), zero-tables)
 
 slice-aggregate-fill-row : tie.Need-slice-aggregate-fill-row
 slice-aggregate-fill-row c = search needs
@@ -42,8 +46,9 @@ returns : tie.Need-returns
 returns c =
     let row = c .before .before in
     let tables = row .before .before .before .before .before .before in
-    let start = tables .before .before .before .before .before .before .before .before .before .before in
-    row .fill-row .ensures ∙ held-row _ _ _ (tables .tabulate .ensures .0) (start .args .alpha)
+    let start = tables .before .before .before .before .before .before .before .before .before .before .before in
+    let p = start .pre .0 .0 in
+    row .fill-row .ensures ∙ held-row (graph (start .args .h) (start .args .operators .now) (start .args .rides .now)) (omega (arith, p .few-operators, p .few-rides)) _ _ (tables .tabulate .ensures .0) (start .args .alpha)
 
 returns-2 : tie.Need-returns-2
 returns-2 c =
@@ -59,6 +64,7 @@ fill-levels-spec =
     cast-m
     slice-aggregate-tabulate
     slice-aggregate-tabulate-2
+    slice-aggregate-tabulate-3
     tabulate-requires
     slice-aggregate-fill-row
     slice-aggregate-fill-row-2
