@@ -33,7 +33,7 @@ fn print_totals(totals: &Totals) {
     println!("  answers by number: {:?}", totals.numbers);
     println!("  answers of previews: {:?}", totals.preview_numbers);
     println!("  answers of messages of lists: {:?}", totals.listed_numbers);
-    println!("message sets delivered in several orders: {}", totals.deliveries);
+    println!("message sets delivered in three orders: {}", totals.deliveries);
     println!("lent words compared: {}", totals.words);
     println!("differences: {}", totals.differences);
 }

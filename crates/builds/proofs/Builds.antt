@@ -1,75 +1,102 @@
 -- A build: what the numbers that don't apply say, and the whole outcome. Assumes nothing.
-use mathlib.Core.Path.{_≡_, refl, sym, ap, ap₂, _∙_}
+use mathlib.Core.Path.{_≡_, refl, sym, ap, _∙_, subst}
 use mathlib.Core.Logic.{_≢_}
-use mathlib.Core.List.{List, _++_, map}
-use Prim.Native.Nat.{ℕ, zero, suc, _+_, _-_, _*_, _/_, _%_, _≤_}
+use mathlib.Core.List.{List, map}
+use Prim.Native.Nat.{ℕ, zero, suc, _+_, _-_, _*_, _/_, _%_, _≤_, _<_}
 use native.Mathlib.Omega.{arith}
+use lib.Dec.{T, eqb}
 use lib.Arith.{digits-lt}
-use lib.ListN.{length, take, replicate, length-map, length-replicate, getD-replicate}
-use Rattle.model.specs.declared.Head.{Head}
-use Rattle.model.specs.Count.{rows}
-use Rattle.model.specs.Graph.{Graph, index-of}
-use Rattle.model.specs.Layout.{Operators, Rides, parts, Board, lent, pair-places, over, graph}
-use Rattle.model.specs.Contents.{Contents, pair-numbers, padded, words}
+use lib.ListN.{length, getD, replicate, length-replicate, getD-replicate}
+use Rattle.model.specs.Count.{values, rows}
+use Rattle.model.specs.Graph.{Graph, present, counting, index-of}
+use Rattle.model.specs.Layout.{Operators, Rides, Stamps, Revisions, Index, PresenceStamps, PresenceRevisions, Presence, parts, Board, lent, pair-places, mark-places, over, sized, listed-graph}
+use Rattle.model.specs.Contents.{Pair, Entry, Contents, given, counted, node-slot, pair-numbers, padded, words}
 use Rattle.model.specs.Refusal.{build-refusal}
-use Rattle.model.specs.Calls.{start-contents, built, board-build}
-use Rattle.model.proofs.Pairs.{pairs-fit, pairs-accepted, pairs-count, pairs-operators, pairs-rides, rows-only}
+use Rattle.model.specs.Calls.{built, board-build}
+use Rattle.model.specs.Outcome.{build-left}
+use Rattle.model.proofs.Count.{bit-test}
+use Rattle.model.proofs.Pairs.{pairs-fit, pairs-accepted, rows-only, values-over}
 use Rattle.model.proofs.Parts.{by-part}
+use Rattle.model.proofs.Level.{index-same}
+use Rattle.model.proofs.Presence.{all-count}
+use Rattle.model.proofs.EndToEnd.{started, all-counted, node-started}
 use Rattle.model.proofs.Refusal.{AcceptedTable, build-none}
 use Rattle.words.specs.Filled.{filled}
+use Rattle.words.proofs.Filled.{filled-at, filled-rest, length-filled}
 use Rattle.pairs.specs.Accepted.{AcceptedPairs}
 use Rattle.stamps.specs.Stamps.{start-stamps}
-use Rattle.model.specs.Outcome.{build-left}
+use Rattle.changes.specs.Change.{Arrays}
 
-module _ (h : Head) (operators rides stamps revisions index : List ℕ) (start : ℕ) where
-  abbrev board : Board
-  board = lent h operators rides stamps revisions index
-
+module _ (b : Board) (start : ℕ) where
   -- a build that is refused
-  pub build-refused : (k : ℕ) → k ≡ build-refusal board start → k ≢ 0 → build-left k board ≡ board-build board start
+  pub build-refused : (k : ℕ) → k ≡ build-refusal b start → k ≢ 0 → build-left k b ≡ board-build b start
   unfolding board-build
   build-refused zero e n = absurd (n refl)
   build-refused (suc k) e n = rw (sym e, board-build)
 
-  module _ (none : build-refusal board start ≡ 0) where
+  module _ (none : build-refusal b start ≡ 0) where
     abbrev g : Graph
-    g = graph h operators rides
+    g = listed-graph b
 
-    pub build-table : AcceptedTable board
-    build-table = build-none board start none .0
+    abbrev says : Contents
+    says = started g start
 
-    pub build-fits : h .pairs ≤ pair-places h
-    build-fits = pairs-fit h operators rides (g .cleared) (build-table .pairs)
+    pub build-table : AcceptedTable b
+    build-table = build-none b start none .0
 
-    pub build-pairs : AcceptedPairs h operators rides
+    pub build-pairs : AcceptedPairs (b .head) (b .part Operators) (b .part Rides)
     build-pairs =
+        let fits = pairs-fit (b .head) (b .part Operators) (b .part Rides) (g .cleared) (build-table .pairs) in
         record {
           few-operators = build-table .few-operators;
           few-rides = build-table .few-rides;
-          operators-long = omega (arith, build-fits, build-table .long Operators);
-          rides-long = omega (arith, build-fits, build-table .long Rides);
-          ordered = pairs-accepted h operators rides (g .cleared) (build-table .pairs);
+          operators-long = omega (arith, fits, build-table .long Operators);
+          rides-long = omega (arith, fits, build-table .long Rides);
+          ordered = pairs-accepted (b .head) (b .part Operators) (b .part Rides) (g .cleared) (build-table .pairs);
         }
 
-    count : h .pairs ≡ length (pair-numbers g)
-    count = pairs-count g (h .pairs) operators rides (build-table .pairs)
-
-    -- a pair array with its tail zeroed
-    tail-zeroed : (f : ℕ → ℕ) (array : List ℕ) → take (h .pairs) array ≡ map f (pair-numbers g) → filled (h .pairs) (pair-places h) 0 array ≡ over (padded (pair-places h) (map f (pair-numbers g))) array
-    tail-zeroed f array e =
-        ap₂ (λ (x : List ℕ) (k : ℕ). over (x ++ replicate (pair-places h - k) 0) array) e (count ∙ sym (length-map (pair-numbers g) f))
+    -- the pairs listed are those given
+    all-given : g ≡ sized (b .head) (given says)
+    all-given = λ j. sized (b .head) (λ u v. sym (bit-test (g .cleared u v)) j)
 
     -- every pair's revision is 0
-    revisions-zeroed : filled 0 (pair-places h) 0 revisions ≡ over (rows (h .operators) (h .rides) (λ u v. 0)) revisions
+    revisions-zeroed : filled 0 (pair-places (b .head)) 0 (b .part Revisions) ≡ over (rows (b .head .operators) (b .head .rides) (λ u v. 0)) (b .part Revisions)
     revisions-zeroed =
-        ap (λ (l : List ℕ). over l revisions)
-        (ap (λ (k : ℕ). replicate k 0) (let e : pair-places h - 0 ≡ pair-places h = omega arith in e) ∙
-        rows-only (h .operators) (h .rides) (λ u v. 0) (replicate (pair-places h) 0) (length-replicate {A = ℕ} (pair-places h) 0)
-        (λ u v a b. getD-replicate (pair-places h) (u * h .rides + v) 0 0 (digits-lt a b)))
+        ap (λ (l : List ℕ). over l (b .part Revisions))
+        (ap (λ (k : ℕ). replicate k 0) (let e : pair-places (b .head) - 0 ≡ pair-places (b .head) = omega arith in e) ∙
+        rows-only (b .head .operators) (b .head .rides) (λ u v. 0) (replicate (pair-places (b .head)) 0) (length-replicate {A = ℕ} (pair-places (b .head)) 0)
+        (λ u v p q. getD-replicate (pair-places (b .head)) (u * b .head .rides + v) 0 0 (digits-lt p q)))
 
-    pub build-done : (operators′ rides′ stamps′ revisions′ index′ : List ℕ) → operators′ ≡ filled (h .pairs) (pair-places h) 0 operators → rides′ ≡ filled (h .pairs) (pair-places h) 0 rides → stamps′ ≡ over (start-stamps g start) stamps → revisions′ ≡ filled 0 (pair-places h) 0 revisions → index′ ≡ over (index-of g) index → build-left 0 (lent h operators′ rides′ stamps′ revisions′ index′) ≡ board-build board start
+    -- one word for every operator and ride
+    nodes-filled : (f : Entry → ℕ) (old : List ℕ) → mark-places (b .head) ≤ length old → filled 0 (mark-places (b .head)) (f (record { stamp = 0; revision = 0; word = 1 })) old ≡ over (values (mark-places (b .head)) (λ x. f (says (node-slot (b .head) x)))) old
+    nodes-filled f old long =
+        let w : ℕ = mark-places (b .head) in
+        let k : ℕ = f (record { stamp = 0; revision = 0; word = 1 }) in
+        values-over w (λ x. f (says (node-slot (b .head) x))) (filled 0 w k old) old (omega (arith, length-filled old 0 k w (omega arith) long))
+        (λ x l. filled-at old 0 k w (omega arith) long x (omega arith) l ∙ sym (ap f (node-started g start (b .head) x)))
+        (filled-rest old 0 k w (omega arith) long)
+
+    -- with everybody on and in the index is that of all pairs
+    index-all : (presence : List ℕ) → presence ≡ filled 0 (mark-places (b .head)) 1 (b .part Presence) → index-of (counting g (present presence)) ≡ index-of (sized (b .head) (counted says))
+    index-all presence e =
+        let w : ℕ = mark-places (b .head) in
+        let all : (x : ℕ) → x < w → T (present presence x) = λ x l. subst (λ (k : ℕ). T (eqb k 1)) (sym (ap (λ (p : List ℕ). getD p x 0) e ∙ filled-at (b .part Presence) 0 1 w (omega arith) (build-table .long Presence) x (omega arith) l)) tt in
+        index-same g (counting g (present presence) .cleared) (λ u v p q. sym (all-count g (present presence) all u v p q)) ∙
+        sym (index-same g (counted says) (λ u v p q. all-counted g start u v))
+
+    pub build-done : (operators rides stamps revisions index stamps′ revisions′ presence : List ℕ) → Arrays (b .head) g (b .part Operators) (b .part Rides) (b .head .pairs) operators rides → stamps ≡ over (start-stamps g start) (b .part Stamps) → revisions ≡ filled 0 (pair-places (b .head)) 0 (b .part Revisions) → index ≡ over (index-of (counting g (present presence))) (b .part Index) → (stamps′ ≡ filled 0 (mark-places (b .head)) 0 (b .part PresenceStamps)) × (revisions′ ≡ filled 0 (mark-places (b .head)) 0 (b .part PresenceRevisions)) × (presence ≡ filled 0 (mark-places (b .head)) 1 (b .part Presence)) → build-left 0 (lent (b .head) operators rides stamps revisions index stamps′ revisions′ presence) ≡ board-build b start
     unfolding board-build built words start-stamps
-    build-done operators′ rides′ stamps′ revisions′ index′ o r s v i =
-        let c : Contents = start-contents g start in
-        let each = by-part (λ p. parts operators′ rides′ stamps′ revisions′ index′ p ≡ over (words h c p) (board .part p)) (o ∙ tail-zeroed (λ k. k / h .rides) operators (pairs-operators g (h .pairs) operators rides (build-table .pairs) (build-pairs .operators-long))) (r ∙ tail-zeroed (λ k. k % h .rides) rides (pairs-rides g (h .pairs) operators rides (build-table .pairs) (build-pairs .rides-long))) s (v ∙ revisions-zeroed) i in
-        rw (none, board-build) (λ j. build-left 0 (record { head = record { operators = h .operators; rides = h .rides; pairs = count j }; part = λ p. each p j }))
+    build-done operators rides stamps revisions index stamps′ revisions′ presence a s v i p =
+        let places : ℕ = pair-places (b .head) in
+        let count = a .pairs ∙ ap (λ (x : Graph). length (pair-numbers x)) all-given in
+        let each =
+            by-part (λ q. parts operators rides stamps revisions index stamps′ revisions′ presence q ≡ over (words (b .head) says q) (b .part q))
+            (a .operator-words ∙ ap (λ (x : Graph). over (padded places (map (λ k. k / b .head .rides) (pair-numbers x))) (b .part Operators)) all-given)
+            (a .ride-words ∙ ap (λ (x : Graph). over (padded places (map (λ k. k % b .head .rides) (pair-numbers x))) (b .part Rides)) all-given)
+            s
+            (v ∙ revisions-zeroed)
+            (i ∙ ap (λ (l : List ℕ). over l (b .part Index)) (index-all presence (p .2)))
+            (p .0 ∙ nodes-filled (λ e. e .stamp) (b .part PresenceStamps) (build-table .long PresenceStamps))
+            (p .1 ∙ nodes-filled (λ e. e .revision) (b .part PresenceRevisions) (build-table .long PresenceRevisions))
+            (p .2 ∙ nodes-filled (λ e. e .word) (b .part Presence) (build-table .long Presence)) in
+        rw (none, board-build) (λ j. build-left 0 (record { head = record { operators = b .head .operators; rides = b .head .rides; pairs = count j }; part = λ q. each q j }))

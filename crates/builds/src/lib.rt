@@ -41,12 +41,10 @@ pub fn build(
         return number;
     }
     let places = head.operators as usize * head.rides as usize;
-    let pairs = head.pairs as usize;
     stamps::fill(head, operators, rides, start, stamps);
     words::fill(revisions, 0, places, 0);
     presence::set_all(head, presence_stamps, presence_revisions, presence);
     levels::fill_index(head, operators, rides, presence, index);
-    words::fill(operators, pairs, places, 0);
-    words::fill(rides, pairs, places, 0);
+    changes::clear_tails(head, operators, rides);
     0
 }

@@ -13,7 +13,7 @@ use Rattle.model.specs.declared.Head.{Head}
 use Rattle.model.specs.Count.{bit, values}
 use Rattle.model.specs.Graph.{Graph, nodes, Largest, limits, CoreInside, marked, present, counting, settled, peel, level, row-for, in-by-level, index-of}
 use Rattle.model.specs.Layout.{Operators, Rides, Index, Presence, Board, pair-places, mark-places, index-places, over, sized, counting-graph, listed-graph, board-graph}
-use Rattle.model.specs.Contents.{Pair, Operator, Ride, gives, Contents, counted, node-slot, words}
+use Rattle.model.specs.Contents.{Pair, Operator, Ride, Entry, gives, Contents, counted, node-slot, words}
 use Rattle.model.specs.Refusal.{refused-1, refused-2, refused-3, refused-12, build-refusal, query-refusal, peel-refusal}
 use Rattle.model.specs.Calls.{start-contents, built, board-build, level-read, query-marks, counts, board-query, peel-limits, peeled, board-peel}
 use Rattle.model.specs.Demand.{AllOnes, IsCore, IndexThenQuery, BuildThenQuery, PeelIsLargest, IsPeeledCore, PeelIsCore}
@@ -27,34 +27,40 @@ use Rattle.model.proofs.Refusal.{AcceptedTable, table-skip, build-none}
 
 -- ---- what a build leaves
 
-module _ (b : Board) (start : ℕ) (none : build-refusal b start ≡ 0) where
-  abbrev started : Contents
-  started = start-contents (listed-graph b) start
+module _ (g : Graph) (start : ℕ) where
+  -- what the build says
+  abbrev pub started : Contents
+  started = start-contents g start
 
   -- all pairs count
-  all-counted : (u v : ℕ) → listed-graph b .cleared u v ≡ counted started u v
-  all-counted u v = sym (and-true (gives (started (Pair u v))) ∙ bit-test (listed-graph b .cleared u v))
+  pub all-counted : (u v : ℕ) → g .cleared u v ≡ counted started u v
+  all-counted u v = sym (and-true (gives (started (Pair u v))) ∙ bit-test (g .cleared u v))
+
+  -- everybody is on and in, never heard of
+  pub node-started : (h : Head) (x : ℕ) → started (node-slot h x) ≡ record { stamp = 0; revision = 0; word = 1 }
+  node-started h x = go (ltb x (h .operators))
+    where
+      go : (t : Bool) → started (elim t [ true ↦ Operator x | false ↦ Ride (x - h .operators) ]) ≡ record { stamp = 0; revision = 0; word = 1 }
+      go true = refl
+      go false = refl
+
+module _ (b : Board) (start : ℕ) (none : build-refusal b start ≡ 0) where
+  abbrev says : Contents
+  says = started (listed-graph b) start
 
   built-index : board-build b start .board .part Index ≡ over (index-of (listed-graph b)) (b .part Index)
   unfolding board-build built words
-  built-index = rw (none, board-build) (ap (λ (i : List ℕ). over i (b .part Index)) (index-same (listed-graph b) (counted started) (λ u v p q. all-counted u v)))
-
-  node-one : (x : ℕ) → started (node-slot (b .head) x) .word ≡ 1
-  node-one x = go (ltb x (b .head .operators))
-    where
-      go : (t : Bool) → started (elim t [ true ↦ Operator x | false ↦ Ride (x - b .head .operators) ]) .word ≡ 1
-      go true = refl
-      go false = refl
+  built-index = rw (none, board-build) (ap (λ (i : List ℕ). over i (b .part Index)) (index-same (listed-graph b) (counted says) (λ u v p q. all-counted (listed-graph b) start u v)))
 
   abbrev presence : List ℕ
   presence = board-build b start .board .part Presence
 
   -- the words of operators and rides
   abbrev ones : List ℕ
-  ones = values (mark-places (b .head)) (λ x. started (node-slot (b .head) x) .word)
+  ones = values (mark-places (b .head)) (λ x. says (node-slot (b .head) x) .word)
 
   ones-long : length ones ≡ mark-places (b .head)
-  ones-long = length-values (λ x. started (node-slot (b .head) x) .word) (mark-places (b .head))
+  ones-long = length-values (λ x. says (node-slot (b .head) x) .word) (mark-places (b .head))
 
   built-words : board-build b start .board .part Presence ≡ over ones (b .part Presence)
   unfolding board-build built words
@@ -64,7 +70,7 @@ module _ (b : Board) (start : ℕ) (none : build-refusal b start ≡ 0) where
   built-present : (x : ℕ) → x < mark-places (b .head) → T (present presence x)
   built-present x l =
       subst (λ (k : ℕ). T (eqb k 1))
-      (sym (ap (λ (p : List ℕ). getD p x 0) built-words ∙ List·getD-append ones (drop (length ones) (b .part Presence)) 0 x (omega (arith, ones-long)) ∙ getD-values (λ y. started (node-slot (b .head) y) .word) (mark-places (b .head)) x 0 l ∙ node-one x))
+      (sym (ap (λ (p : List ℕ). getD p x 0) built-words ∙ List·getD-append ones (drop (length ones) (b .part Presence)) 0 x (omega (arith, ones-long)) ∙ getD-values (λ y. says (node-slot (b .head) y) .word) (mark-places (b .head)) x 0 l ∙ ap (λ (e : Entry). e .word) (node-started (listed-graph b) start (b .head) x)))
       tt
 
   presence-long : mark-places (b .head) ≤ length presence
