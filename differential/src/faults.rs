@@ -369,8 +369,9 @@ fn found(fault: Fault, enough: fn(&Totals) -> bool) -> Totals {
     compared.totals
 }
 
-/// Among the calls are previews that give each of 0 to 10, 14 and 15, whose message is then sent, and whose spare memory is
-/// then the board; messages of all six kinds are taken; queries and peels are accepted with somebody off or out.
+/// Among the calls are previews that give each of 0 to 10, 14 and 15, whose message is then sent, and whose spare
+/// memory is then the board; messages of all six kinds are taken; queries and peels are accepted with somebody off or
+/// out.
 #[test]
 fn the_reference_does_not_differ_from_itself() {
     let totals = found(Fault::None, |totals| totals.deliveries == 200);

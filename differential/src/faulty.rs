@@ -98,8 +98,8 @@ fn write_byte(part: &[u8], offset: isize) {
     unsafe { part.as_ptr().cast_mut().offset(offset).write_volatile(0) }
 }
 
-/// Writes a byte beside a part that doesn't fill its pages, at the end that lies against no page. Of a part without places
-/// it can't be told which end that is.
+/// Writes a byte beside a part that doesn't fill its pages, at the end that lies against no page. Of a part without
+/// places it can't be told which end that is.
 fn write_beside(part: &[u8]) {
     let is_low = part.as_ptr() as usize % PAGE == 0;
     if !part.is_empty() {
@@ -406,8 +406,8 @@ impl Faulty {
         }
     }
 
-    /// Whether one of 7 to 10, 14 and 15 applies to a message, as the fault reads it. Where 7 applies, 8, 15 and 10 are not
-    /// asked for, and where 8 does, 10 is not.
+    /// Whether one of 7 to 10, 14 and 15 applies to a message, as the fault reads it. Where 7 applies, 8, 15 and 10 are
+    /// not asked for, and where 8 does, 10 is not.
     fn applies(&self, number: u16, head: Head, parts: &Slices, one: Message) -> bool {
         let (operator_out, ride_out) = (one.operator >= head.operators, one.ride >= head.rides);
         let unused = match one.kind {
@@ -531,8 +531,8 @@ impl Faulty {
         }
     }
 
-    /// Spoils what a preview that is not refused left. The spare head and parts before it are given too. Gives the count of
-    /// words that differ, where the index is another one.
+    /// Spoils what a preview that is not refused left. The spare head and parts before it are given too. Gives the
+    /// count of words that differ, where the index is another one.
     fn spoil_preview(
         &self,
         head: Head,

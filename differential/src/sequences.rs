@@ -264,8 +264,8 @@ fn revision(numbers: &mut Numbers) -> u16 {
     }
 }
 
-/// The stamp and the revision that a board has of a message's pair, operator or ride. Those of a build's grant where there
-/// is no such place, or nothing was heard of it.
+/// The stamp and the revision that a board has of a message's pair, operator or ride. Those of a build's grant where
+/// there is no such place, or nothing was heard of it.
 fn last(lent: &Lent, kind: u16, operator: u16, ride: u16) -> (u32, u16) {
     let Lent { head, parts } = lent;
     let (place, node) = (head.place(operator, ride), head.ride_node(ride));
@@ -282,8 +282,8 @@ fn last(lent: &Lent, kind: u16, operator: u16, ride: u16) -> (u32, u16) {
     }
 }
 
-/// A message, mostly valid, in three of five cases for a pair. Its stamp is often that of its pair's, operator's or ride's
-/// last or near those of others, and so is its revision; in one of six both are those of the last.
+/// A message, mostly valid, in three of five cases for a pair. Its stamp is often that of its pair's, operator's or
+/// ride's last or near those of others, and so is its revision; in one of six both are those of the last.
 fn message(numbers: &mut Numbers, lent: &Lent) -> Message {
     let number = |numbers: &mut Numbers, size: u16| match numbers.below(30) {
         0 => size,
@@ -383,8 +383,8 @@ fn asked(numbers: &mut Numbers, board: &Lent) -> Lent {
     asked
 }
 
-/// A board that is built, and then queried, peeled, sent messages and previewed; some calls are given damaged input. In half
-/// of the sequences operators and rides get other stamps, revisions and words now and then.
+/// A board that is built, and then queried, peeled, sent messages and previewed; some calls are given damaged input. In
+/// half of the sequences operators and rides get other stamps, revisions and words now and then.
 pub fn sequence<B: Library>(compared: &mut Compared<B>, numbers: &mut Numbers, size: Size) {
     let (n, m) = size.numbers(numbers);
     let pairs = table(numbers, n, m);
@@ -532,8 +532,8 @@ fn built_of(built: &Lent, pairs: &[(u16, u16)]) -> Lent {
     Lent { head, parts }
 }
 
-/// The board that is worked out from a book, in memory that a build left. The index is that of a build of the pairs that
-/// count, and of no others.
+/// The board that is worked out from a book, in memory that a build left. The index is that of a build of the pairs
+/// that count, and of no others.
 fn worked_out(built: &Lent, book: &Book) -> Lent {
     let listed = book.iter().filter(|(_, latest)| latest.2 == GRANT);
     let listed: Vec<(u16, u16)> = listed
@@ -564,8 +564,8 @@ fn worked_out(built: &Lent, book: &Book) -> Lent {
     Lent { head, parts }
 }
 
-/// Demand 3 on the library itself: the same messages in three orders, one the reverse of another and one with repeats, leave
-/// the same board, the one that is worked out from the latest message of each pair, operator and ride.
+/// Demand 3 on the library itself: the same messages in three orders, one the reverse of another and one with repeats,
+/// leave the same board, the one that is worked out from the latest message of each pair, operator and ride.
 pub fn delivery<B: Library>(compared: &mut Compared<B>, numbers: &mut Numbers, size: Size) {
     let (n, m) = size.numbers(numbers);
     let pairs = table(numbers, n, m);

@@ -286,8 +286,8 @@ impl Set {
     }
 }
 
-/// Document 02: a pair counts if it is listed, its operator is on and its ride is in. For each operator the rides, and for
-/// each ride the operators, of the pairs that count.
+/// Document 02: a pair counts if it is listed, its operator is on and its ride is in. For each operator the rides, and
+/// for each ride the operators, of the pairs that count.
 struct Counting {
     on: Set,
     in_service: Set,
@@ -321,8 +321,9 @@ impl Counting {
     }
 }
 
-/// Definition 2.1, for limits from 0: the largest set where each operator is on and has at least alpha rides of the set,
-/// and each ride is in and has at least beta operators of it. Whoever falls short goes, again and again, until nobody does.
+/// Definition 2.1, for limits from 0: the largest set where each operator is on and has at least alpha rides of the
+/// set, and each ride is in and has at least beta operators of it. Whoever falls short goes, again and again, until
+/// nobody does.
 fn core(counting: &Counting, alpha: usize, beta: usize) -> (Set, Set) {
     let mut operators = Set::of(0..counting.rides_of.len());
     let mut rides = Set::of(0..counting.operators_of.len());
@@ -399,9 +400,9 @@ pub fn build(head: Head, parts: &mut Slices, start: u32) -> u16 {
     0
 }
 
-/// Marks by the words of the index, whatever they are, and nobody who is off or out. Documents 01 and 02: with alpha 0 all
-/// operators are in, and a ride by its row 1 level; with beta 0 all rides are in, and an operator if its row alpha level is
-/// at least 1.
+/// Marks by the words of the index, whatever they are, and nobody who is off or out. Documents 01 and 02: with alpha 0
+/// all operators are in, and a ride by its row 1 level; with beta 0 all rides are in, and an operator if its row alpha
+/// level is at least 1.
 pub fn query(head: Head, index: &[u16], presence: &[u16], alpha: u16, beta: u16, marks: &mut [u16]) -> Counts {
     let (words, nodes) = (head.words(), head.nodes());
     let code = first_of(&[
@@ -552,8 +553,8 @@ struct Entry {
     gives: bool,
 }
 
-/// Of two messages for one pair, operator or ride: the first is later than the second. The larger stamp is later; at equal
-/// stamps the larger revision; at both equal a withdrawal is later than a grant, off than on, and out than in.
+/// Of two messages for one pair, operator or ride: the first is later than the second. The larger stamp is later; at
+/// equal stamps the larger revision; at both equal a withdrawal is later than a grant, off than on, and out than in.
 fn is_later(first: Entry, second: Entry) -> bool {
     if first.stamp != second.stamp {
         return first.stamp > second.stamp;

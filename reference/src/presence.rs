@@ -20,9 +20,21 @@ const NEITHER: Words = [1, 1, 0, 1, 1, 0, 1];
 /// Rows 1 and 2 of the index. Row 3 is all 0 in every sample.
 pub type Rows = [Words; 2];
 
+/// The index with these rows.
+pub const fn index(rows: &Rows) -> [u16; 21] {
+    let mut index = [0; 21];
+    let mut place = 0;
+    while place < 14 {
+        index[place] = rows[place / 7][place % 7];
+        place += 1;
+    }
+    index
+}
+
 /// Those of the build.
 pub const ALL_COUNT: Rows = [[3, 3, 3, 2, 2, 3, 2], [2, 2, 1, 0, 2, 2, 1]];
-/// (0, 0), (0, 1), (1, 0), (1, 1), (3, 2) count. Operators 0 and 1 are cleared for rides 0 and 1, operator 3 alone for ride 2.
+/// (0, 0), (0, 1), (1, 0), (1, 1), (3, 2) count. Operators 0 and 1 are cleared for rides 0 and 1, operator 3 alone for
+/// ride 2.
 const WITHOUT_OPERATOR_2: Rows = [[2, 2, 0, 1, 2, 2, 1], [2, 2, 0, 0, 2, 2, 0]];
 /// (0, 0), (0, 1), (1, 0), (1, 1), (2, 1), (2, 2) count. Ride 1 has three operators, ride 2 has operator 2 alone.
 const WITHOUT_OPERATOR_3: Rows = [[3, 3, 3, 0, 2, 3, 1], [2, 2, 1, 0, 2, 2, 1]];
@@ -124,8 +136,8 @@ pub const DELIVERIES: &[Delivery] = &[
     // The stamps of operators and rides are not those of pairs, and each operator and ride has its own.
     delivery(&[(off(2, 1), 0, 8), (ride_out(1, 1), 0, 5), (withdrawal(0, 0, 4), 10, 0)], NEITHER, WITHOUT_BOTH),
     delivery(&[(on(1, 9), 0, 0), (off(2, 8), 0, 8), (ride_out(1, 7), 0, 5)], NEITHER, WITHOUT_BOTH),
-    // A clearance that is granted while its operator is off is listed, and counts once the operator is on. The others move
-    // by one level.
+    // A clearance that is granted while its operator is off is listed, and counts once the operator is on. The others
+    // move by one level.
     Delivery {
         came: EVERYBODY,
         sent: &[(off(3, 9), 0, 2), (grant(3, 1, 9), 0, 0)],
@@ -441,7 +453,7 @@ pub type Query = (Words, [u16; 21], (u16, u16), Words);
 const INDEX_0: [u16; 21] = [0; 21];
 const INDEX_9: [u16; 21] = [9; 21];
 /// The build's.
-const INDEX: [u16; 21] = [3, 3, 3, 2, 2, 3, 2, 2, 2, 1, 0, 2, 2, 1, 0, 0, 0, 0, 0, 0, 0];
+const INDEX: [u16; 21] = index(&ALL_COUNT);
 
 /// Words of which the second operator and the second ride alone are 1.
 const ODD: Words = [7, 1, 65_535, 257, 0, 1, 2];
@@ -476,7 +488,8 @@ pub const QUERIES: &[Query] = &[
     (NEITHER, INDEX, (2, 2), [1, 1, 0, 0, 1, 0, 0]),
 ];
 
-/// A peel of the board: words of presence, marks, limits, allowed steps, the answer's numbers, and the marks that are left.
+/// A peel of the board: words of presence, marks, limits, allowed steps, the answer's numbers, and the marks that are
+/// left.
 pub type Peel = (Words, Words, (u16, u16), u16, [u16; 3], Words);
 
 pub const PEELS: &[Peel] = &[

@@ -237,9 +237,9 @@ fn absent(board: &mut Store, node: usize) {
     assert_eq!(board.message(one).code, 0);
 }
 
-/// Definition 2.1 over every set of every table of up to 3 by 3, for limits from 0 and whoever is off and out: inside any
-/// marks there is a largest set that meets the limits, and a peel settles on it. From all ones it is the cover, and what a
-/// query marks.
+/// Definition 2.1 over every set of every table of up to 3 by 3, for limits from 0 and whoever is off and out: inside
+/// any marks there is a largest set that meets the limits, and a peel settles on it. From all ones it is the cover, and
+/// what a query marks.
 #[test]
 fn cover_is_the_largest() {
     for (n, m) in [(0, 0), (0, 2), (2, 0), (2, 2), (1, 3), (3, 1), (2, 3), (3, 2), (3, 3)] {
@@ -393,9 +393,9 @@ fn stored(board: &mut Store, one: Message) {
     parts.presence[node] = one.kind % 2;
 }
 
-/// The three rows of an index, the third of zeros, and the two places behind them.
+/// The index with these rows, and the two places behind it.
 fn index_of_rows(rows: &Rows) -> Vec<u16> {
-    [&rows[0][..], &rows[1], &[0; 7], &[7; 2]].concat()
+    [&presence::index(rows)[..], &[7; 2]].concat()
 }
 
 /// Sends messages, each with its preview first. Gives the answers.
@@ -422,7 +422,8 @@ fn delivered(delivery: &Delivery) -> Store {
     board
 }
 
-/// By message calls, each with its preview first, and by a list. Whatever index came in, the one that is left is the same.
+/// By message calls, each with its preview first, and by a list. Whatever index came in, the one that is left is the
+/// same.
 #[test]
 fn present_and_absent() {
     for delivery in DELIVERIES {
@@ -617,8 +618,8 @@ fn furthest(before: &Store, after: &Store, node: usize) -> u16 {
     others.map(|(_, moved)| moved).max().unwrap()
 }
 
-/// On every table of 3 by 3, with everybody on and in and with operator 0 off: a clearance or an operator's coming or going
-/// moves the levels of all but that operator by one at most. A ride's going moves others further.
+/// On every table of 3 by 3, with everybody on and in and with operator 0 off: a clearance or an operator's coming or
+/// going moves the levels of all but that operator by one at most. A ride's going moves others further.
 #[test]
 fn levels_move_by_one() {
     let mut by_rides = 0;
@@ -753,8 +754,8 @@ fn delivered_is_the_latest_of_each() {
     }
 }
 
-/// Every list of three messages for one pair, listed or not, for one operator and for one ride, by message calls and by a
-/// list.
+/// Every list of three messages for one pair, listed or not, for one operator and for one ride, by message calls and by
+/// a list.
 #[test]
 fn three_messages_for_one() {
     let built = [&[][..], &[(0, 0)]].map(|pairs| {
@@ -905,8 +906,8 @@ fn previewed_grant() {
     assert_eq!(spare.parts.index[21..], [8]);
 }
 
-/// Operator 2 goes while ride 2 has the word 7: (0, 0), (0, 1), (1, 0), (1, 1) count. Of row 1 and row 2 the words of operators
-/// 2 and 3 and ride 2 are 0, and the others 2: 6 and 2 words differ from the build's.
+/// Operator 2 goes while ride 2 has the word 7: (0, 0), (0, 1), (1, 0), (1, 1) count. Of row 1 and row 2 the words of
+/// operators 2 and 3 and ride 2 are 0, and the others 2: 6 and 2 words differ from the build's.
 #[test]
 fn previewed_presence() {
     let mut board = sample(1);
@@ -987,8 +988,8 @@ fn sizes_of_previews() {
     }
 }
 
-/// Without a ride the parts of presence alone need some places, and without an operator these and the index. There is no
-/// pair, so that a grant and a withdrawal get 8.
+/// Without a ride the parts of presence alone need some places, and without an operator these and the index. There is
+/// no pair, so that a grant and a withdrawal get 8.
 #[test]
 fn previews_of_boards_without_pairs() {
     for (operators, rides) in [(0, 0), (3, 0), (0, 3)] {

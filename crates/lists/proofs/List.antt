@@ -1,7 +1,7 @@
 -- Filling the index once, after the last message of a list, gives what the messages give one after another. With the messages up to a place entered
 -- and the index as it came, the board differs from theirs in the index alone, which is that of its pairs once one message was taken. Assumes nothing.
 use mathlib.Core.Path.{_≡_, refl, sym, ap, ap₂, _∙_, subst}
-use mathlib.Core.Bool.{Bool, true, false}
+use mathlib.Core.Bool.{Bool, true, false, not}
 use mathlib.Core.List.{List, [], _∷_, _++_}
 use Prim.Native.Nat.{ℕ, zero, suc, _+_, _*_, _≤_, _<_}
 use native.Mathlib.Omega.{arith}
@@ -13,9 +13,9 @@ use lib.Seq.{drop-at, getD-set-same, getD-set-other}
 use Rattle.model.specs.declared.Message.{Message}
 use Rattle.model.specs.Count.{count, some}
 use Rattle.model.specs.Graph.{Graph, nodes, level, index-of}
-use Rattle.model.specs.Layout.{Operators, Rides, Stamps, Revisions, Index, Parts, Board, index-places, places, over, onto, board-graph}
-use Rattle.model.specs.Contents.{Slot, Pair, Contents, slot, entry, put, contents, words, board-of}
-use Rattle.model.specs.Refusal.{refused-10, message-refusal, list-refusal}
+use Rattle.model.specs.Layout.{Index, Parts, Board, index-places, over, onto, board-graph}
+use Rattle.model.specs.Contents.{Slot, Pair, Operator, Ride, Contents, later, slot, entry, put, contents, words, board-of}
+use Rattle.model.specs.Refusal.{refused-10, first-number, valid-cases, message-refusal, list-refusal}
 use Rattle.model.specs.Message.{MessageOutcome, board-after, board-message, ListOutcome, in-order}
 use Rattle.model.specs.Outcome.{listed-out}
 use Rattle.model.proofs.Count.{test-true, test-ext, some-holds, some-witness, length-rows}
@@ -24,14 +24,15 @@ use Rattle.model.proofs.Refusal.{Accepted, message-accepted, list-none, list-ac
 use Rattle.model.proofs.Contents.{length-words, index-words}
 use Rattle.model.proofs.Taken.{message-taken, message-refused, message-code, accepted-message}
 use Rattle.endings.specs.Ending.{filled-index}
-use Rattle.lists.specs.Once.{with-index, entered, finished, turned, turns}
-use Rattle.lists.proofs.Once.{entered-taken, entered-refused}
+use Rattle.entries.specs.Enter.{with-index, entered-valid}
+use Rattle.lists.specs.Once.{finished, turned, turns}
+use Rattle.lists.proofs.Once.{accepted-with, turn-taken, turn-refused, turn-accepted}
 
 -- ---- boards that differ in the index alone
 
 -- a board with its own index
 with-own : (b : Board) → with-index b (b .part Index) ≡ b
-with-own b = λ j. record { head = b .head; part = λ p. by-part (λ q. with-index b (b .part Index) .part q ≡ b .part q) refl refl refl refl refl p j }
+with-own b = λ j. record { head = b .head; part = λ p. by-part (λ q. with-index b (b .part Index) .part q ≡ b .part q) refl refl refl refl refl refl refl refl p j }
 
 module _ (b : Board) (index : List ℕ) where
   -- the contents don't look at the index
@@ -40,36 +41,29 @@ module _ (b : Board) (index : List ℕ) where
     where
       go : (t : Slot) → contents (with-index b index) t ≡ contents b t
       go (Pair u v) = refl
-
-  accepted-with : index-places (b .head) ≤ length index → Accepted b → Accepted (with-index b index)
-  accepted-with l a =
-      record {
-        table = record {
-          few-operators = a .table .few-operators;
-          few-rides = a .table .few-rides;
-          long = by-part (λ p. places (b .head) p ≤ length (with-index b index .part p)) (a .table .long Operators) (a .table .long Rides) (a .table .long Stamps) (a .table .long Revisions) l;
-          pairs = a .table .pairs;
-        };
-        stamped = a .stamped;
-      }
+      go (Operator u) = refl
+      go (Ride v) = refl
 
   -- nor does a message's number look at its words
   refusal-with : index-places (b .head) ≤ length index → Accepted b → (m : Message) → message-refusal (with-index b index) m ≡ message-refusal b m
   unfolding refused-10
-  refusal-with l a m = message-accepted (with-index b index) m (accepted-with l a) ∙ sym (message-accepted b m a)
+  refusal-with l a m =
+      message-accepted (with-index b index) m (accepted-with b index l a) ∙
+      ap (λ (s : Contents). first-number (valid-cases (b .head) m ++ (10, not (later (entry m) (s (slot m)))) ∷ [])) says-with ∙
+      sym (message-accepted b m a)
 
   -- a message entered
-  entered-with : index-places (b .head) ≤ length index → Accepted b → (m : Message) → entered (with-index b index) m ≡ with-index (board-message b m .board) index
+  entered-with : index-places (b .head) ≤ length index → Accepted b → (m : Message) → entered-valid (with-index b index) m ≡ with-index (board-message b m .board) index
   unfolding board-after
   entered-with l a m = go (message-refusal b m) refl
     where
-      go : (k : ℕ) → message-refusal b m ≡ k → entered (with-index b index) m ≡ with-index (board-message b m .board) index
+      go : (k : ℕ) → message-refusal b m ≡ k → entered-valid (with-index b index) m ≡ with-index (board-message b m .board) index
       go zero e =
-          entered-taken (with-index b index) m (refusal-with l a m ∙ e) ∙
+          turn-taken (with-index b index) m (accepted-with b index l a) (refusal-with l a m ∙ e) ∙
           ap (λ (s : Contents). with-index (onto (board-of (b .head) (put s (slot m) (entry m))) (b .part)) index) says-with ∙
           ap (λ (o : MessageOutcome). with-index (o .board) index) (sym (message-taken b m e))
       go (suc k) e =
-          entered-refused (with-index b index) m k (refusal-with l a m ∙ e) ∙ ap (λ (o : MessageOutcome). with-index (o .board) index) (sym (message-refused b m k e))
+          turn-refused (with-index b index) m (accepted-with b index l a) k (refusal-with l a m ∙ e) ∙ ap (λ (o : MessageOutcome). with-index (o .board) index) (sym (message-refused b m k e))
 
 -- ---- the index of the messages one after another
 
@@ -199,12 +193,6 @@ module _ (n : ℕ) (b : Board) (m : Message) (at : ℕ) (answers : List ℕ) (no
   ready : Accepted b
   ready = list-none b n answers none .0
 
-  accepted-entered : Accepted (entered b m) × (index-places (entered b m .head) ≤ length (entered b m .part Index))
-  accepted-entered =
-      subst (λ (x : Board). Accepted x × (index-places (x .head) ≤ length (x .part Index))) (sym (ap (λ (x : Board). entered x m) (sym (with-own b)) ∙ entered-with b (b .part Index) (ready .table .long Index) ready m))
-      (let long : index-places (board-message b m .board .head) ≤ length (b .part Index) = omega (arith, sizes-kept b m, ready .table .long Index) in
-      (accepted-with (board-message b m .board) (b .part Index) long (accepted-message b m ready), long))
-
   length-filled : (g : Graph) (index l : List ℕ) → g .rides * nodes g ≤ length index → g .rides * nodes g ≤ length (filled-index n g index l)
   unfolding filled-index
   length-filled g index l k =
@@ -216,9 +204,10 @@ module _ (n : ℕ) (b : Board) (m : Message) (at : ℕ) (answers : List ℕ) (no
   pub turned-keeps : list-refusal (turned n b m at answers .board) n (turned n b m at answers .answers) ≡ 0
   unfolding turned
   turned-keeps =
-      let e : Board = entered b m in
+      let e : Board = entered-valid b m in
+      let k = turn-accepted b m ready in
       let l : List ℕ = set answers at (board-message b m .answer .code) in
       let room : n ≤ length l = omega (arith, length-set answers at (board-message b m .answer .code), list-none b n answers none .1) in
-      let keeps : Accepted e = accepted-entered .0 in
-      let fills : Accepted (finished n e l) = accepted-with e (filled-index n (board-graph e) (e .part Index) l) (length-filled (board-graph e) (e .part Index) l (accepted-entered .1)) keeps in
+      let keeps : Accepted e = k .0 in
+      let fills : Accepted (finished n e l) = accepted-with e (filled-index n (board-graph e) (e .part Index) l) (length-filled (board-graph e) (e .part Index) l (keeps .table .long Index)) keeps in
       list-accepted (turned n b m at answers .board) n l (elim (eqb (at + 1) n) as (λ (t : Bool). Accepted (elim t [ true ↦ finished n e l | false ↦ e ])) [ true ↦ fills | false ↦ keeps ]) room

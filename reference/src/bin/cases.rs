@@ -81,8 +81,8 @@ impl Random {
         needed + self.pick(&[0, 0, 1, 2, 5])
     }
 
-    /// For each part of a board a length that is at least the one needed. Those of the parts that document 02 adds come from
-    /// a generator of their own: what `cover` is given doesn't depend on them.
+    /// For each part of a board a length that is at least the one needed. Those of the parts that document 02 adds come
+    /// from a generator of their own: what `cover` is given doesn't depend on them.
     fn lengths(&mut self, head: Head) -> Lengths {
         let needed = head.lengths();
         let mut others = Random(!self.0);
@@ -592,8 +592,8 @@ fn some_revision(random: &mut Random) -> u16 {
     }
 }
 
-/// A message for a board of these sizes, mostly a valid one. Three in five are for a pair. Stamps are few, so that many are
-/// equal.
+/// A message for a board of these sizes, mostly a valid one. Three in five are for a pair. Stamps are few, so that many
+/// are equal.
 fn some_message(random: &mut Random, head: Head, start: u32) -> Message {
     let size = |random: &mut Random, count: u16| {
         if count == 0 || random.one_in(25) {
@@ -633,7 +633,8 @@ fn like_kind(random: &mut Random, kind: u16) -> u16 {
     }
 }
 
-/// A board that a message may find: stamps, revisions and words of its own, and an index that need not be that of the pairs.
+/// A board that a message may find: stamps, revisions and words of its own, and an index that need not be that of the
+/// pairs.
 fn found_board(random: &mut Random) -> Draft {
     let mut draft = Draft::small(random);
     let mut words = built(&draft);
@@ -1023,8 +1024,8 @@ fn sample_revisions(random: &mut Random, stream: &mut Stream) {
     }
 }
 
-/// Document 02's operators who have gone home and rides out of service, with what was worked out by hand: builds, queries
-/// and peels.
+/// Document 02's operators who have gone home and rides out of service, with what was worked out by hand: builds,
+/// queries and peels.
 fn sample_presence(random: &mut Random, stream: &mut Stream) {
     for words in BUILT_OVER {
         stream.call(with_presence(random, &words).build(START));
@@ -1088,7 +1089,7 @@ fn is_left(stream: &Stream, delivery: &Delivery) {
     let listed = delivery.pairs.len();
     assert_eq!((&pairs[..listed], &pairs[listed..]), (delivery.pairs, &vec![(0, 0); 12 - listed][..]));
     assert_eq!(presence[..7], delivery.left);
-    assert_eq!(index[..21], [&delivery.rows[0][..], &delivery.rows[1], &[0; 7]].concat());
+    assert_eq!(index[..21], reference::presence::index(&delivery.rows));
 }
 
 /// The same: messages of the six kinds.
