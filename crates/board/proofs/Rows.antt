@@ -24,7 +24,7 @@ use Rattle.entries.specs.Enter.{with-pairs}
 
 -- THE SLICES: their element types, in the order of the parameters. How many there are is written in no proof.
 abbrev pub Rs : List RattleType
-Rs = u16 ∷ u16 ∷ u32 ∷ u16 ∷ u16 ∷ []
+Rs = u16 ∷ u16 ∷ u32 ∷ u16 ∷ u16 ∷ u32 ∷ u16 ∷ u16 ∷ []
 
 abbrev pub An : RattleType
 An = Q.the-row

@@ -21,8 +21,17 @@ same-length-4 c = search needs
 same-length-5 : tie.Need-same-length-5
 same-length-5 c = search needs
 
+same-length-6 : tie.Need-same-length-6
+same-length-6 c = search needs
+
+same-length-7 : tie.Need-same-length-7
+same-length-7 c = search needs
+
+same-length-8 : tie.Need-same-length-8
+same-length-8 c = search needs
+
 returns : tie.Need-returns
-returns c = c .before .before .before .before .before .before .before .before .before .before .build .ensures
+returns c = c .before .before .before .before .before .before .before .before .before .before .before .before .before .before .before .before .build .ensures
 
 pub board-build-spec : {M : Type 1} → statement M
 board-build-spec =
@@ -34,4 +43,7 @@ board-build-spec =
     same-length-3
     same-length-4
     same-length-5
+    same-length-6
+    same-length-7
+    same-length-8
     returns)
