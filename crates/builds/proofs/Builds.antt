@@ -90,13 +90,13 @@ module _ (b : Board) (start : ℕ) where
         let places : ℕ = pair-places (b .head) in
         let count = a .pairs ∙ ap (λ (x : Graph). length (pair-numbers x)) all-given in
         let each =
-            by-part (λ q. parts operators rides stamps revisions index stamps′ revisions′ presence q ≡ over (words (b .head) says q) (b .part q))
-            (a .operator-words ∙ ap (λ (x : Graph). over (padded places (map (λ k. k / b .head .rides) (pair-numbers x))) (b .part Operators)) all-given)
-            (a .ride-words ∙ ap (λ (x : Graph). over (padded places (map (λ k. k % b .head .rides) (pair-numbers x))) (b .part Rides)) all-given)
-            s
-            (v ∙ revisions-zeroed)
-            (i ∙ ap (λ (l : List ℕ). over l (b .part Index)) (index-all presence (p .2)))
-            (p .0 ∙ nodes-filled (λ e. e .stamp) (b .part PresenceStamps) (build-table .long PresenceStamps))
-            (p .1 ∙ nodes-filled (λ e. e .revision) (b .part PresenceRevisions) (build-table .long PresenceRevisions))
-            (p .2 ∙ nodes-filled (λ e. e .word) (b .part Presence) (build-table .long Presence)) in
+        by-part (λ q. parts operators rides stamps revisions index stamps′ revisions′ presence q ≡ over (words (b .head) says q) (b .part q))
+        (a .operator-words ∙ ap (λ (x : Graph). over (padded places (map (λ k. k / b .head .rides) (pair-numbers x))) (b .part Operators)) all-given)
+        (a .ride-words ∙ ap (λ (x : Graph). over (padded places (map (λ k. k % b .head .rides) (pair-numbers x))) (b .part Rides)) all-given)
+        s
+        (v ∙ revisions-zeroed)
+        (i ∙ ap (λ (l : List ℕ). over l (b .part Index)) (index-all presence (p .2)))
+        (p .0 ∙ nodes-filled (λ e. e .stamp) (b .part PresenceStamps) (build-table .long PresenceStamps))
+        (p .1 ∙ nodes-filled (λ e. e .revision) (b .part PresenceRevisions) (build-table .long PresenceRevisions))
+        (p .2 ∙ nodes-filled (λ e. e .word) (b .part Presence) (build-table .long Presence)) in
         rw (none, board-build) (λ j. build-left 0 (record { head = record { operators = b .head .operators; rides = b .head .rides; pairs = count j }; part = λ q. each q j }))

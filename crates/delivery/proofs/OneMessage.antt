@@ -2,12 +2,19 @@
 use mathlib.Core.Path.{_≡_, refl, sym, ap, _∙_, subst}
 use mathlib.Core.Logic.{_≢_}
 use mathlib.Core.Bool.{Bool, _&&_}
+use mathlib.Core.List.{[], _∷_}
 use Prim.Native.Nat.{ℕ, _≤_, _<_}
 use native.Mathlib.Omega.{arith}
 use lib.Dec.{T}
 use Rattle.model.specs.declared.Message.{Message}
-use Rattle.model.specs.Count.{bit}
-use Rattle.model.specs.Graph.{Graph}
+use Rattle.model.specs.Count
+use Rattle.model.specs.Graph
+use Rattle.model.specs.Layout
+use Rattle.model.specs.Contents
+use Rattle.model.specs.Refusal
+use Rattle.model.specs.Calls
+use Rattle.model.specs.Message
+use Rattle.model.specs.Graph.{Graph, row}
 use Rattle.model.specs.Layout.{Board, listed-graph, board-graph}
 use Rattle.model.specs.Contents.{Slot, Pair, Operator, Ride, Entry, gives, Contents, slot, giving, entry, put, given, counted, contents}
 use Rattle.model.specs.Refusal.{message-refusal}
@@ -18,8 +25,7 @@ use Rattle.model.proofs.Change.{one-operator}
 use Rattle.model.proofs.Refusal.{slot-pair, slot-operator, Within, Valid, taken-none}
 use Rattle.model.proofs.Contents.{slot-refl, slot-equal, pair-equal, by-slot, put-same, put-other}
 use Rattle.model.proofs.Taken.{message-taken, says-after}
-use Rattle.model.proofs.Samples.{ride-gone-taken, ride-gone-rows}
-use Rattle.delivery.specs.Demand.{OneMessage}
+use Rattle.delivery.specs.Demand.{two-on-one, ride-gone, OneMessage}
 
 -- the slot is the operator's own, or one of its pairs
 abbrev Of : ℕ → Slot → Type 0
@@ -145,6 +151,12 @@ kind-gives m k e t = subst T (sym (bit-test (giving (m .kind)) ∙ ap giving e))
 kind-takes : (m : Message) (k : ℕ) → m .kind ≡ k → (T (giving k) → ⊥) → T (gives (entry m)) → ⊥
 kind-takes m k e n t = n (subst T (bit-test (giving (m .kind)) ∙ ap giving e) t)
 
+-- ---- a ride: the example
+
+ride-moves : (message-refusal two-on-one ride-gone ≡ 0) × (row (board-graph two-on-one) 1 ≡ 2 ∷ 2 ∷ 2 ∷ []) × (row (board-graph (board-message two-on-one ride-gone .board)) 1 ≡ 0 ∷ 0 ∷ 0 ∷ [])
+unfolding Contents.slot Count.count Count.some Count.lowest Count.values Count.rows Count.passing Graph.degree Graph.limits Graph.short Graph.settled Graph.removals Graph.without Graph.peel Graph.cover Graph.level-to Graph.level Graph.row Graph.index-of Layout.listed Refusal.misplaced Refusal.refused-5 Refusal.refused-6 Refusal.refused-10 Refusal.first-number Refusal.board-short Refusal.build-refusal Refusal.message-refusal Calls.built Calls.board-build Contents.pair-numbers Contents.words Message.board-after Message.board-message
+ride-moves = (refl, refl, refl)
+
 pub one-message : OneMessage
 one-message =
     record {
@@ -152,7 +164,7 @@ one-message =
       operator-on = λ b m taken k. let o = of-operator b m taken (omega arith) (omega arith) in moves-up b m taken (m .operator) (o .0) (o .1) (kind-gives m 3 k tt);
       withdrawal = λ b m taken k. let o = of-pair b m taken (omega arith) in moves-down b m taken (m .operator) (o .0) (o .1) (kind-takes m 2 k (λ t. t));
       operator-off = λ b m taken k. let o = of-operator b m taken (omega arith) (omega arith) in moves-down b m taken (m .operator) (o .0) (o .1) (kind-takes m 4 k (λ t. t));
-      ride-out = ride-gone-taken;
-      ride-before = ride-gone-rows .0;
-      ride-after = ride-gone-rows .1;
+      ride-out = ride-moves .0;
+      ride-before = ride-moves .1;
+      ride-after = ride-moves .2;
     }

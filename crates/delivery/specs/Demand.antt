@@ -10,12 +10,12 @@ use lib.ListN.{length, take}
 use Rattle.model.specs.declared.Head.{Head}
 use Rattle.model.specs.declared.Message.{Message}
 use Rattle.model.specs.Graph.{row}
-use Rattle.model.specs.Layout.{Operators, Rides, Board, over, exact, board-graph}
+use Rattle.model.specs.Layout.{Operators, Rides, Board, lent, over, exact, board-graph}
 use Rattle.model.specs.Contents.{Slot, later, slot, entry}
 use Rattle.model.specs.Refusal.{build-refusal, message-refusal, list-refusal}
+use Rattle.model.specs.Calls.{board-build}
 use Rattle.model.specs.Message.{board-message, board-preview, board-messages}
 use Rattle.model.specs.Demand.{OneMove}
-use Rattle.model.specs.Samples.{two-on-one, ride-gone}
 use Rattle.delivery.specs.Calls.{Call, run, built-board, returned, case, delivered}
 use Rattle.delivery.specs.Book.{too-short, valid, book, latest, written}
 
@@ -70,6 +70,17 @@ AnyOrder =
     SameTable b b′ →
     ((m : Message) → T (valid (b .head) m) → List·Memᴰ m (delivered (built-board b start) calls) ↔ List·Memᴰ m (delivered (built-board b′ start) calls′)) →
     run (built-board b start) calls ≡ run (built-board b′ start) calls′
+
+-- two operators cleared for one ride, built at stamp 1 over words of no meaning
+abbrev pub two-on-one : Board
+two-on-one =
+    let words : List ℕ = 9 ∷ 9 ∷ 9 ∷ [] in
+    let table = lent (record { operators = 2; rides = 1; pairs = 2 }) (0 ∷ 1 ∷ []) (0 ∷ 0 ∷ []) words words words words words words in
+    board-build table 1 .board
+
+-- the ride goes out of service
+abbrev pub ride-gone : Message
+ride-gone = record { kind = 6; operator = 0; ride = 0; revision = 0; stamp = 2 }
 
 -- Demand 3, its last sentence: on any board where a message is taken, how levels by the definition move, of the pairs that count
 pub record OneMessage : Type 0 where

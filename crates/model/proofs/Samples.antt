@@ -11,11 +11,7 @@ use Rattle.model.specs.Contents
 use Rattle.model.specs.Refusal
 use Rattle.model.specs.Calls
 use Rattle.model.specs.Message
-use Rattle.model.specs.Graph.{row}
-use Rattle.model.specs.Layout.{board-graph}
-use Rattle.model.specs.Refusal.{message-refusal}
-use Rattle.model.specs.Message.{board-message}
-use Rattle.model.specs.Samples.{samples, zero-samples, preview-samples, revision-samples, presence-samples, two-on-one, ride-gone, Agree}
+use Rattle.model.specs.Samples.{samples, zero-samples, preview-samples, revision-samples, presence-samples, Agree}
 use Rattle.model.proofs.Count.{and-left, and-right}
 
 -- the test: two lists are equal word by word
@@ -58,12 +54,3 @@ revision-samples-hold = all-agree revision-samples (tested .3)
 
 pub presence-samples-hold : Agree presence-samples
 presence-samples-hold = all-agree presence-samples (tested .4)
-
--- two operators cleared for one ride: its going takes both from level 2 to 0
-pub ride-gone-taken : message-refusal two-on-one ride-gone ≡ 0
-unfolding Graph.raised Contents.slot Layout.copied Refusal.preview-refusal Message.board-preview Count.count Count.some Count.lowest Count.values Count.rows Graph.degree Graph.limits Graph.short Graph.settled Graph.removals Graph.without Graph.peel Graph.cover Graph.level-to Graph.level Graph.row Graph.index-of Layout.listed Layout.differing Refusal.misplaced Refusal.refused-5 Refusal.refused-12 Refusal.first-number Refusal.board-short Refusal.peel-refusal Refusal.query-refusal Calls.query-marks Calls.counts Calls.board-query Calls.peeled Calls.board-peel Count.passing Refusal.build-refusal Refusal.refused-6 Refusal.refused-10 Refusal.message-refusal Calls.built Calls.board-build Contents.pair-numbers Contents.words Message.board-after Message.board-message
-ride-gone-taken = refl
-
-pub ride-gone-rows : (row (board-graph two-on-one) 1 ≡ 2 ∷ 2 ∷ 2 ∷ []) × (row (board-graph (board-message two-on-one ride-gone .board)) 1 ≡ 0 ∷ 0 ∷ 0 ∷ [])
-unfolding Graph.raised Contents.slot Layout.copied Refusal.preview-refusal Message.board-preview Count.count Count.some Count.lowest Count.values Count.rows Graph.degree Graph.limits Graph.short Graph.settled Graph.removals Graph.without Graph.peel Graph.cover Graph.level-to Graph.level Graph.row Graph.index-of Layout.listed Layout.differing Refusal.misplaced Refusal.refused-5 Refusal.refused-12 Refusal.first-number Refusal.board-short Refusal.peel-refusal Refusal.query-refusal Calls.query-marks Calls.counts Calls.board-query Calls.peeled Calls.board-peel Count.passing Refusal.build-refusal Refusal.refused-6 Refusal.refused-10 Refusal.message-refusal Calls.built Calls.board-build Contents.pair-numbers Contents.words Message.board-after Message.board-message
-ride-gone-rows = (refl, refl)

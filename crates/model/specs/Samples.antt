@@ -314,17 +314,6 @@ presence-samples =
     ) ∷
     []
 
--- two operators cleared for one ride, built at stamp 1
-abbrev pub two-on-one : Board
-two-on-one =
-    let words : List ℕ = 9 ∷ 9 ∷ 9 ∷ [] in
-    let table = lent (record { operators = 2; rides = 1; pairs = 2 }) (0 ∷ 1 ∷ []) (0 ∷ 0 ∷ []) words words words words words words in
-    board-build table 1 .board
-
--- the ride goes out of service
-abbrev pub ride-gone : Message
-ride-gone = of-kind 6 0 0 2
-
 -- in each row of a table the two lists are equal
 abbrev pub Agree : List (List ℕ × List ℕ) → Type 0
 Agree [] = Unit
