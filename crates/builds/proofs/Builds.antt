@@ -10,7 +10,7 @@ use lib.ListN.{length, getD, replicate, length-replicate, getD-replicate}
 use Rattle.model.specs.Count.{values, rows}
 use Rattle.model.specs.Graph.{Graph, present, counting, index-of}
 use Rattle.model.specs.Layout.{Operators, Rides, Stamps, Revisions, Index, PresenceStamps, PresenceRevisions, Presence, parts, Board, lent, pair-places, mark-places, over, sized, listed-graph}
-use Rattle.model.specs.Contents.{Pair, Entry, Contents, given, counted, node-slot, pair-numbers, padded, words}
+use Rattle.model.specs.Contents.{Entry, Contents, given, counted, node-slot, pair-numbers, padded, words}
 use Rattle.model.specs.Refusal.{build-refusal}
 use Rattle.model.specs.Calls.{built, board-build}
 use Rattle.model.specs.Outcome.{build-left}

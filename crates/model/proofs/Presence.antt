@@ -8,10 +8,9 @@ use Prim.Native.Nat.{ℕ, suc, _+_, _-_, _≤_, _<_}
 use native.Mathlib.Omega.{arith}
 use native.Mathlib.Decide.{decLt, decLe}
 use lib.Dec.{T, ltb}
-use Rattle.model.specs.Count.{count}
-use Rattle.model.specs.Graph.{Graph, nodes, degree, Meets, Largest, limits, CoreInside, Core, marked, counting, raised, short, cover, level}
+use Rattle.model.specs.Graph.{Graph, nodes, degree, Meets, Largest, CoreInside, Core, marked, counting, raised, short, cover, level}
 use Rattle.model.proofs.Count.{by-test, test-true, test-false, and-left, and-right, and-both, count-mono, count-zero}
-use Rattle.model.proofs.Peel.{degree-operator, degree-ride, degree-mono, short-holds}
+use Rattle.model.proofs.Peel.{degree-operator, degree-ride, short-holds}
 use Rattle.model.proofs.Cover.{limits-either, degree-operator-le, degree-ride-le, cover-core}
 use Rattle.model.proofs.Level.{level-holds, degree-more}
 

@@ -6,7 +6,7 @@ use Prim.Native.Nat.{ℕ, _-_, _*_}
 use lib.ListN.{getD, take, drop, replicate}
 use Rattle.model.specs.declared.Message.{Message}
 use Rattle.model.specs.Graph.{Graph, limits, removals, cover, row}
-use Rattle.model.specs.Layout.{Operators, Rides, Stamps, Revisions, Index, PresenceStamps, PresenceRevisions, Presence, Board, mark-places, lent, listed-graph, board-graph}
+use Rattle.model.specs.Layout.{Operators, Rides, Stamps, Revisions, Index, PresenceStamps, PresenceRevisions, Presence, Board, mark-places, lent, listed-graph}
 use Rattle.model.specs.Calls.{PeelOutcome, board-build, board-query, board-peel}
 use Rattle.model.specs.Message.{MessageOutcome, board-message, board-preview}
 

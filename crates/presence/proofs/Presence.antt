@@ -9,7 +9,7 @@ use Rattle.model.specs.declared.Head.{Head}
 use Rattle.model.specs.declared.Message.{Message}
 use Rattle.model.specs.Count.{bit}
 use Rattle.model.specs.Layout.{PresenceStamps, PresenceRevisions, Presence, Board, mark-places}
-use Rattle.model.specs.Contents.{Slot, Entry, gives, later, slot, entry, contents, ride-place, entry-at}
+use Rattle.model.specs.Contents.{Entry, gives, later, slot, entry, contents, ride-place, entry-at}
 use Rattle.model.specs.Refusal.{refused-10}
 use Rattle.model.proofs.Count.{bit-test}
 use Rattle.model.proofs.Refusal.{slot-operator, slot-ride, by-kind, Within}

@@ -5,7 +5,7 @@ use mathlib.Core.Bool.{Bool, true, false, _||_, not}
 use mathlib.Core.List.{List, [], _∷_, _++_}
 use Prim.Native.Nat.{ℕ, _≤_, _<_}
 use native.Mathlib.Omega.{arith}
-use lib.Dec.{T, ltb, lt→ltb, eqb→eq, T-not}
+use lib.Dec.{T, lt→ltb, eqb→eq, T-not}
 use borrow.Author.Tests.{eq-eqb}
 use lib.ListN.{length}
 use Rattle.model.specs.declared.Head.{Head}

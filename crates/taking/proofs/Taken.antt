@@ -8,7 +8,7 @@ use lib.Dec.{eqb}
 use lib.ListN.{length, getD, drop, List·getD-append}
 use Rattle.model.specs.declared.Message.{Message}
 use Rattle.model.specs.Graph.{index-of}
-use Rattle.model.specs.Layout.{Part, Operators, Rides, Index, Presence, Parts, Board, mark-places, index-places, over, board-graph, differing}
+use Rattle.model.specs.Layout.{Operators, Rides, Index, Presence, Board, mark-places, index-places, over, board-graph, differing}
 use Rattle.model.specs.Contents.{Contents, slot, entry, put, contents, words}
 use Rattle.model.specs.Refusal.{message-refusal}
 use Rattle.model.specs.Message.{board-after, board-message}

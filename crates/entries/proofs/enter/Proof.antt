@@ -1,6 +1,4 @@
 -- `entries::enter` meets its contract: the kind says what the message is entered for. Assumes nothing.
-use mathlib.Core.List.{List}
-use Prim.Native.Nat.{ℕ}
 use native.Mathlib.Omega.{arith}
 use Rattle.model.specs.Layout.{Operators, Rides, PresenceStamps, PresenceRevisions, Presence, lent}
 use Rattle.entries.proofs.Entering.{node-within, node-entered}

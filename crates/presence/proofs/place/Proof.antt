@@ -1,7 +1,5 @@
 -- `presence::place` meets its contract: operators come first, then rides. Assumes nothing.
 use borrow.Author.Needs.{needs}
-use mathlib.Core.Path.{_∙_}
-use native.Mathlib.Omega.{arith}
 use Rattle.presence.proofs.Presence.{operator-place, ride-at}
 use Rattle.presence.proofs.place.Statement.{statement}
 use Rattle.presence.proofs.place.Tie as tie
