@@ -15,7 +15,7 @@ use Rattle.model.specs.Refusal.{build-refusal}
 use Rattle.model.specs.Calls.{built, board-build}
 use Rattle.model.specs.Outcome.{build-left}
 use Rattle.model.proofs.Count.{bit-test}
-use Rattle.model.proofs.Pairs.{pairs-fit, pairs-accepted, rows-only, values-over}
+use Rattle.model.proofs.Pairs.{rows-only, values-over}
 use Rattle.model.proofs.Parts.{by-part}
 use Rattle.model.proofs.Level.{index-same}
 use Rattle.model.proofs.Presence.{all-count}
@@ -24,6 +24,7 @@ use Rattle.model.proofs.Refusal.{AcceptedTable, build-none}
 use Rattle.words.specs.Filled.{filled}
 use Rattle.words.proofs.Filled.{filled-at, filled-rest, length-filled}
 use Rattle.pairs.specs.Accepted.{AcceptedPairs}
+use Rattle.pairs.proofs.Table.{accepted-pairs}
 use Rattle.stamps.specs.Stamps.{start-stamps}
 use Rattle.changes.specs.Change.{Arrays}
 
@@ -45,15 +46,7 @@ module _ (b : Board) (start : ℕ) where
     build-table = build-none b start none .0
 
     pub build-pairs : AcceptedPairs (b .head) (b .part Operators) (b .part Rides)
-    build-pairs =
-        let fits = pairs-fit (b .head) (b .part Operators) (b .part Rides) (g .cleared) (build-table .pairs) in
-        record {
-          few-operators = build-table .few-operators;
-          few-rides = build-table .few-rides;
-          operators-long = omega (arith, fits, build-table .long Operators);
-          rides-long = omega (arith, fits, build-table .long Rides);
-          ordered = pairs-accepted (b .head) (b .part Operators) (b .part Rides) (g .cleared) (build-table .pairs);
-        }
+    build-pairs = accepted-pairs b build-table
 
     -- the pairs listed are those given
     all-given : g ≡ sized (b .head) (given says)

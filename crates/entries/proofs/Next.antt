@@ -1,34 +1,22 @@
 -- A board to which 1 to 6 do not apply has room for a message, and so has the board once a message is entered. Assumes nothing.
 use mathlib.Core.List.{List}
 use Prim.Native.Nat.{ℕ, _≤_}
-use native.Mathlib.Omega.{arith}
 use lib.Dec.{T}
 use lib.ListN.{length}
 use Rattle.model.specs.declared.Message.{Message}
-use Rattle.model.specs.Layout.{Operators, Rides, Stamps, Revisions, PresenceStamps, PresenceRevisions, Presence, Board, places, listed-graph}
+use Rattle.model.specs.Layout.{Operators, Rides, Stamps, Revisions, PresenceStamps, PresenceRevisions, Presence, Board, places}
 use Rattle.model.specs.Message.{board-after}
-use Rattle.model.proofs.Pairs.{pairs-fit, pairs-accepted}
 use Rattle.model.proofs.Parts.{by-part}
-use Rattle.model.proofs.Refusal.{AcceptedTable, Accepted, Valid, none-valid}
+use Rattle.model.proofs.Refusal.{Accepted, Valid, none-valid}
 use Rattle.model.proofs.Taken.{accepted-after}
 use Rattle.pairs.specs.Accepted.{AcceptedPairs}
+use Rattle.pairs.proofs.Table.{accepted-pairs}
 use Rattle.message_refusals.specs.Ready.{Ready}
 use Rattle.entries.specs.Enter.{in-use, Room, Enters, with-index, entered}
 
 module _ (b : Board) where
-  pub table-pairs : AcceptedTable b → AcceptedPairs (b .head) (b .part Operators) (b .part Rides)
-  table-pairs t =
-      let fits = pairs-fit (b .head) (b .part Operators) (b .part Rides) (listed-graph b .cleared) (t .pairs) in
-      record {
-        few-operators = t .few-operators;
-        few-rides = t .few-rides;
-        operators-long = omega (arith, fits, t .long Operators);
-        rides-long = omega (arith, fits, t .long Rides);
-        ordered = pairs-accepted (b .head) (b .part Operators) (b .part Rides) (listed-graph b .cleared) (t .pairs);
-      }
-
   pub room-of : Accepted b → Room b
-  room-of a = record { pairs = table-pairs (a .table); long = λ p n. a .table .long p }
+  room-of a = record { pairs = accepted-pairs b (a .table); long = λ p n. a .table .long p }
 
   -- and a message's numbers can be told
   pub room-ready : Room b → Ready (b .head) (b .part Operators) (b .part Rides) (b .part Stamps) (b .part Revisions) (b .part PresenceStamps) (b .part PresenceRevisions) (b .part Presence)
@@ -60,4 +48,4 @@ module _ (b : Board) where
 -- the pair arrays of the board once a message is entered
 pub entered-pairs : (b : Board) (m : Message) → Accepted b → Valid (b .head) m → AcceptedPairs (entered b m .head) (entered b m .part Operators) (entered b m .part Rides)
 unfolding entered
-entered-pairs b m a v = table-pairs (board-after b m) (accepted-after b m a v .table)
+entered-pairs b m a v = accepted-pairs (board-after b m) (accepted-after b m a v .table)

@@ -19,7 +19,8 @@ use Rattle.model.proofs.Taken.{message-code, accepted-after}
 use Rattle.pairs.specs.Accepted.{AcceptedPairs}
 use Rattle.entries.specs.Enter.{Room, with-index, entered, number-of, entered-valid}
 use Rattle.entries.proofs.Entering.{entered-none, entered-refused}
-use Rattle.entries.proofs.Next.{table-pairs, room-of}
+use Rattle.pairs.proofs.Table.{accepted-pairs}
+use Rattle.entries.proofs.Next.{room-of}
 use Rattle.endings.specs.Ending.{filled-index, index-turned}
 use Rattle.endings.proofs.Ending.{index-last, index-on}
 use Rattle.lists.specs.Once.{finished, turned, turns-of}
@@ -85,7 +86,7 @@ module _ (b : Board) (m : Message) (n : ℕ) (answers : List ℕ) (none : list-r
     turn-ready =
         let e = turn-accepted b m accepted in
         subst (λ (y : Board). AcceptedPairs (y .head) (y .part Operators) (y .part Rides) × (mark-places (y .head) ≤ length (y .part Presence)) × (index-places (y .head) ≤ length (b .part Index))) (sym (done .1))
-        (table-pairs (entered-valid b m) (e .0 .table), e .0 .table .long Presence, e .1)
+        (accepted-pairs (entered-valid b m) (e .0 .table), e .0 .table .long Presence, e .1)
 
     module _ (at : ℕ) where
       abbrev numbers : ℕ → List ℕ

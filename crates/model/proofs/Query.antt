@@ -15,7 +15,7 @@ use Rattle.model.specs.Graph.{Graph, nodes, Largest, limits, marked, pre
 use Rattle.model.specs.Layout.{mark-places, sized}
 use Rattle.model.specs.Calls.{level-read, query-marks}
 use Rattle.model.specs.Demand.{ZeroIsNoLimit, PresenceLaws, QueryIsCore}
-use Rattle.model.proofs.Count.{bit-test, getD-values}
+use Rattle.model.proofs.Count.{and-false, bit-test, getD-values}
 use Rattle.model.proofs.Peel.{degree-mono}
 use Rattle.model.proofs.Cover.{limits-operator, limits-ride, limits-either}
 use Rattle.model.proofs.Level.{level-high, level-place, level-from-zero}
@@ -121,10 +121,6 @@ ride-in h index β v l =
 both-in : (a b c : Bool) → b ≡ c → (a && b) ≡ (a && c)
 both-in a b c e = ap (λ (z : Bool). a && z) e
 
-no-one : (a b : Bool) → b ≡ false → (a && b) ≡ false
-no-one true b e = e
-no-one false b e = refl
-
 pub zero-is-no-limit : (h : Head) (index presence : List ℕ) → ZeroIsNoLimit h index presence
 zero-is-no-limit h index presence =
     let n : ℕ = h .operators in
@@ -135,7 +131,7 @@ zero-is-no-limit h index presence =
       rides-by-row-1 = λ β v l. is 0 β (n + v) (omega arith) ∙ both-in (here (n + v)) _ _ (ride-in h index β v l);
       all-rides = λ α v l. is α 0 (n + v) (omega arith) ∙ unlimited h index α 0 (n + v) (limits-ride n α 0 (n + v) (omega arith)) (here (n + v));
       operators-by-row = λ α u a r l. is α 0 u (omega arith) ∙ both-in (here u) _ _ (in-row h index α 0 u (omega (arith, limits-operator n α 0 u l)) a r);
-      rides-alone = λ α u r l. is α 0 u (omega arith) ∙ no-one (here u) _ (no-row h index α 0 u (omega (arith, limits-operator n α 0 u l)) r);
+      rides-alone = λ α u r l. is α 0 u (omega arith) ∙ and-false (here u) _ (no-row h index α 0 u (omega (arith, limits-operator n α 0 u l)) r);
       everyone = λ x l. is 0 0 x l ∙ unlimited h index 0 0 x (limits-either n 0 0 x (λ (k : ℕ). k ≡ 0) refl refl) (here x);
       from-one = λ α β x a b l. is α β x l ∙ both-in (here x) _ _ (from-one h index α β x (limits-either n α β x (λ (k : ℕ). 1 ≤ k) a b) a b);
     }
