@@ -18,5 +18,5 @@ pub mod Exact
 pub mod EndToEnd
 pub mod Preview
 pub mod Eleven
-pub mod Samples
+pub mod Later
 pub mod Entries

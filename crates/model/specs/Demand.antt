@@ -11,7 +11,7 @@ use Rattle.model.specs.declared.Message.{Message}
 use Rattle.model.specs.Count.{count, some}
 use Rattle.model.specs.Graph.{Graph, nodes, degree, everybody, Inside, Largest, limits, CoreInside, Core, marked, present, counting, raised, short, settled, removals, peel, cover, level, row-for, in-by-level, index-of}
 use Rattle.model.specs.Layout.{Part, Index, Presence, Board, mark-places, places, of-parts, exact, copied, sized, counting-graph, listed-graph, board-graph}
-use Rattle.model.specs.Contents.{Slot, Pair, Operator, Ride, later, slot, entry, contents}
+use Rattle.model.specs.Contents.{Slot, Pair, Operator, Ride, Entry, gives, later, slot, entry, contents}
 use Rattle.model.specs.Refusal.{refused-1, refused-2, refused-7, refused-8, refused-9, refused-14, outside, unused, first-number, board-short, valid-cases, build-refusal, list-refusal, peel-refusal}
 use Rattle.model.specs.Calls.{QueryOutcome, PeelOutcome, query-marks, board-build, board-query, board-peel}
 use Rattle.model.specs.Message.{board-message, board-preview, board-messages}
@@ -152,6 +152,16 @@ pub record PreviewLaws (b : Board) (m : Message) (spare : Board) : Type 0 where
   pub any-answer : (other : Board) → ((p : Part) → length (spare .part p) ≡ length (other .part p)) → board-preview b m spare .answer ≡ board-preview b m other .answer
   pub any-board : (other : Board) → board-preview b m spare .answer .code ≡ 0 → board-preview b m other .answer .code ≡ 0 →
       exact (board-preview b m spare .board) ≡ exact (board-preview b m other .board)
+
+-- Document 02, 2.3 and 2.4: which of two entries of a pair, operator or ride is later
+pub record LaterLaws : Type 0 where
+  -- the larger stamp; at equal stamps the larger revision; at both equal, a withdrawal over a grant, off over on, out over in
+  pub stamp : (e f : Entry) → f .stamp < e .stamp → T (later e f)
+  pub revision : (e f : Entry) → e .stamp ≡ f .stamp → f .revision < e .revision → T (later e f)
+  pub tie : (e f : Entry) → e .stamp ≡ f .stamp → e .revision ≡ f .revision → e .word ≢ 1 → f .word ≡ 1 → T (later e f)
+  -- neither, where both are equal and both give or both take away; and never each later than the other
+  pub alike : (e f : Entry) → e .stamp ≡ f .stamp → e .revision ≡ f .revision → gives e ≡ gives f → T (later e f) → ⊥
+  pub one-way : (e f : Entry) → T (later e f) → T (later f e) → ⊥
 
 -- Document 02, 2.3 and 2.4, of what a build and a message leave and answer, whatever revisions and words a board stores
 pub record EntryLaws : Type 0 where

@@ -6,5 +6,4 @@ pub mod Refusal
 pub mod Calls
 pub mod Message
 pub mod Demand
-pub mod Samples
 pub mod Outcome

@@ -4,15 +4,15 @@ use mathlib.Core.Bool.{Bool, true, false, _&&_}
 use mathlib.Core.List.{List, [], _∷_}
 use Prim.Native.Nat.{ℕ}
 use lib.Dec.{T, eqb, eqb→eq}
 use Rattle.model.specs.Count
 use Rattle.model.specs.Graph
 use Rattle.model.specs.Layout
 use Rattle.model.specs.Contents
 use Rattle.model.specs.Refusal
 use Rattle.model.specs.Calls
 use Rattle.model.specs.Message
-use Rattle.model.specs.Samples.{samples, zero-samples, preview-samples, revision-samples, presence-samples, Agree}
+use Rattle.samples.specs.Samples.{samples, zero-samples, preview-samples, revision-samples, presence-samples, Agree}
 use Rattle.model.proofs.Count.{and-left, and-right}
 
 -- the test: two lists are equal word by word
 abbrev same : List ℕ → List ℕ → Bool
