@@ -15,7 +15,7 @@ use Rattle.model.specs.declared.Message.{Message}
 use Rattle.model.specs.Count.{bit}
 use Rattle.model.specs.Contents.{Slot, Pair, Operator, Ride, same-slot, Entry, gives, later, slot, giving, entry, unheard}
 use Rattle.model.specs.Refusal.{first-number, valid-cases}
-use Rattle.model.proofs.Count.{by-test, test-true, test-false, test-ext, bit-test, and-left, and-right, and-both, or-left, or-right, or-cases}
+use Rattle.model.proofs.Count.{by-test, test-true, test-false, test-ext, bit-test}
 use Rattle.model.proofs.Refusal.{by-kind, Valid, valid-none, none-valid}
 use Rattle.model.proofs.Contents.{slot-refl, slot-equal}
 use Rattle.model.proofs.Later.{Later, later-stamp, later-tie, not-later, later-irrefl, later-trans}

@@ -104,7 +104,7 @@ pub fn enter_valid(
         (now («presence_stamps» .entry)) (now («presence_revisions» .entry)) (now (presence .entry))) message))
         ⌝ }
 {
-    let number = message_refusals::valid_number(head, message);
+    let number = validity::valid_number(head, message);
     if number != 0 {
         return Numbered {
             code: number,

@@ -5,8 +5,7 @@ ghost use mathlib.Core.List.{List, _++_};
 ghost use Prim.Native.Nat.{ℕ, _≤_};
 ghost use lib.ListN.{length};
 ghost use Rattle.model.specs.Layout.{parts, lent, pair-places};
-ghost use Rattle.model.specs.Contents.{slot};
-ghost use Rattle.model.specs.Refusal.{refused-3, refused-8, unused, refused-10, board-short, first-number, board-cases, valid-cases, message-cases};
+ghost use Rattle.model.specs.Refusal.{refused-3, refused-10, board-short, first-number, board-cases, valid-cases, message-cases};
 ghost use Rattle.model.specs.Refusal.{message-refusal, preview-refusal, list-refusal};
 ghost use Rattle.message_refusals.specs.Ready.{Ready};
 use model::Head;
@@ -31,60 +30,6 @@ fn board_number(head: Head, short: bool, operators: &[u16], rides: &[u16], stamp
     }
     if stamps::missing(head, operators, rides, stamps) {
         return 6;
-    }
-    0
-}
-
-// Whether what a message speaks of is out of range: its pair, its operator or its ride.
-fn outside(head: Head, message: Message) -> bool
-    ensures { λ r. ⌜ r ≡ refused-8 head message ⌝ }
-{
-    if message.kind <= 2 {
-        if head.operators <= message.operator {
-            return true;
-        }
-        return head.rides <= message.ride;
-    }
-    if message.kind <= 4 {
-        return head.operators <= message.operator;
-    }
-    head.rides <= message.ride
-}
-
-// The field that a message doesn't use; 0 where it uses both.
-fn unused(message: Message) -> u16
-    ensures { λ r. ⌜ r ≡ unused (slot message) message ⌝ }
-{
-    if message.kind <= 2 {
-        return 0;
-    }
-    if message.kind <= 4 {
-        return message.ride;
-    }
-    message.operator
-}
-
-// 7 to 9, 14 and 15 of a message: 0 if it is valid.
-pub fn valid_number(head: Head, message: Message) -> u16
-    ensures { λ r. ⌜ r ≡ first-number (valid-cases head message) ⌝ }
-{
-    if message.kind == 0 {
-        return 7;
-    }
-    if 6 < message.kind {
-        return 7;
-    }
-    if outside(head, message) {
-        return 8;
-    }
-    if message.stamp == 0 {
-        return 9;
-    }
-    if 255 < message.revision {
-        return 14;
-    }
-    if unused(message) != 0 {
-        return 15;
     }
     0
 }
@@ -149,7 +94,7 @@ fn number_on(
     if number != 0 {
         return number;
     }
-    let valid = valid_number(head, message);
+    let valid = validity::valid_number(head, message);
     if valid != 0 {
         return valid;
     }

@@ -59,14 +59,14 @@ pub fn not_later(
         ⌝ }
 {
     let at = place(head, message);
-    !stamps::is_later(message, stamps[at], revisions[at], presence[at] == 1)
+    !order::is_later(message, stamps[at], revisions[at], presence[at] == 1)
 }
 
 // The word of a kind: 1 where it gives, else 0.
 fn word(kind: u16) -> u16
     ensures { λ r. ⌜ r ≡ bit (giving kind) ⌝ }
 {
-    if stamps::gives(kind) { 1 } else { 0 }
+    if order::gives(kind) { 1 } else { 0 }
 }
 
 // Stores the stamp, the revision and the word of a taken message for an operator or ride.

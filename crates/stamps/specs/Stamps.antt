@@ -1,9 +1,8 @@
--- Inner contracts: the stamps of listed pairs, word by word, and when a stamp and a revision exceed others.
+-- Inner contracts: the stamps of listed pairs, word by word.
 use mathlib.Core.Path.{_≡_}
 use mathlib.Core.List.{List}
-use mathlib.Core.Bool.{Bool, true, false, _&&_, _||_}
+use mathlib.Core.Bool.{Bool, true, false}
 use Prim.Native.Nat.{ℕ, _+_, _*_, _<_}
-use lib.Dec.{ltb, eqb}
 use lib.ListN.{getD, drop}
 use Rattle.model.specs.Count.{rows}
 use Rattle.model.specs.Graph.{Graph}
@@ -21,7 +20,3 @@ pub record Stamped (is-listed : ℕ → ℕ → Bool) (n m start : ℕ) (old new
 -- the stamps of a build: the starting stamp for listed pairs, 0 for the others
 unfoldable pub start-stamps : Graph → ℕ → List ℕ
 start-stamps g start = rows (g .operators) (g .rides) (λ u v. elim (g .cleared u v) [ true ↦ start | false ↦ 0 ])
-
--- a stamp and a revision exceed others: larger stamp; at equal stamps larger revision
-unfoldable pub exceeds : ℕ → ℕ → ℕ → ℕ → Bool
-exceeds stamp revision stamp′ revision′ = ltb stamp′ stamp || (eqb stamp stamp′ && ltb revision′ revision)

@@ -1,15 +1,14 @@
-// The stamps and revisions of pairs: a pair's place among them, the stamps of a build, whether a listed pair has none, the store of a taken message;
-// and whether a message is later than the last of its pair, operator or ride.
+// The stamps and revisions of pairs: a pair's place among them, the stamps of a build, whether a listed pair has none, whether a message is later
+// than its pair's last, and the store of a taken message.
 ghost use mathlib.Core.Path.{_≡_};
 ghost use mathlib.Core.List.{List};
 ghost use Prim.Native.Nat.{ℕ, _*_, _<_, _≤_};
 ghost use lib.ListN.{length, getD, set};
 ghost use Rattle.model.specs.Layout.{lent, pair-places, over, listed, graph};
-ghost use Rattle.model.specs.Count.{bit};
-ghost use Rattle.model.specs.Contents.{giving, later, entry, pair-place};
+ghost use Rattle.model.specs.Contents.{pair-place};
 ghost use Rattle.model.specs.Refusal.{refused-6, refused-10};
 ghost use Rattle.pairs.specs.Accepted.{AcceptedPairs};
-ghost use Rattle.stamps.specs.Stamps.{Stamped, start-stamps, exceeds};
+ghost use Rattle.stamps.specs.Stamps.{Stamped, start-stamps};
 use model::Head;
 use model::Message;
 
@@ -68,45 +67,6 @@ pub fn missing(head: Head, operators: &[u16], rides: &[u16], stamps: &[u32]) -> 
     false
 }
 
-// Whether a stamp and a revision exceed others.
-fn exceeds(stamp: u32, revision: u16, other: u32, other_revision: u16) -> bool
-    ensures { λ r. ⌜ r ≡ exceeds stamp revision other «other_revision» ⌝ }
-{
-    if stamp == other {
-        return other_revision < revision;
-    }
-    other < stamp
-}
-
-// Whether a kind gives: 1 grant, 3 operator on, 5 ride in.
-pub fn gives(kind: u16) -> bool
-    ensures { λ r. ⌜ r ≡ giving kind ⌝ }
-{
-    if kind == 1 {
-        return true;
-    }
-    if kind == 3 {
-        return true;
-    }
-    kind == 5
-}
-
-// Whether a message is later than the last of its slot, of this stamp and revision, which gives or takes away.
-pub fn is_later(message: Message, stamp: u32, revision: u16, given: bool) -> bool
-    ensures { λ r. ⌜ r ≡ later (entry message) (record { stamp = stamp; revision = revision; word = bit given }) ⌝ }
-{
-    if exceeds(message.stamp, message.revision, stamp, revision) {
-        return true;
-    }
-    if exceeds(stamp, revision, message.stamp, message.revision) {
-        return false;
-    }
-    if gives(message.kind) {
-        return false;
-    }
-    given
-}
-
 // Whether a message for a pair in range is not later than the pair's last. Only where it decides is the pair looked up.
 pub fn not_later(
     head: Head,
@@ -128,10 +88,10 @@ pub fn not_later(
     let at = place(head, message.operator, message.ride);
     let stamp = stamps[at];
     let revision = revisions[at];
-    if !is_later(message, stamp, revision, true) {
+    if !order::is_later(message, stamp, revision, true) {
         return true;
     }
-    if is_later(message, stamp, revision, false) {
+    if order::is_later(message, stamp, revision, false) {
         return false;
     }
     !pairs::is_listed(head, message.operator, message.ride, operators, rides)

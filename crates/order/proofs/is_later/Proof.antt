@@ -1,13 +1,13 @@
--- `stamps::is_later` meets its contract: stamps and revisions are compared, and where neither exceeds the other who gives. Assumes nothing.
+-- `order::is_later` meets its contract: stamps and revisions are compared, and where neither exceeds the other who gives. Assumes nothing.
 use borrow.Author.Needs.{needs}
 use mathlib.Core.Path.{sym, ap, _∙_}
 use mathlib.Core.Bool.{Bool, not, _&&_}
 use Rattle.model.specs.Count.{bit}
 use Rattle.model.specs.Contents.{gives}
 use Rattle.model.proofs.Count.{bit-test}
-use Rattle.stamps.proofs.Tests.{exceeds-later, exceeded-earlier, tied}
-use Rattle.stamps.proofs.is_later.Statement.{statement}
-use Rattle.stamps.proofs.is_later.Tie as tie
+use Rattle.order.proofs.Order.{exceeds-later, exceeded-earlier, tied}
+use Rattle.order.proofs.is_later.Statement.{statement}
+use Rattle.order.proofs.is_later.Tie as tie
 
 exceeds-requires : tie.Need-exceeds-requires
 exceeds-requires c κs = search needs

@@ -1,10 +1,10 @@
--- `message_refusals::valid_number` meets its contract: 7 to 9, 14 and 15 in this order. Assumes nothing.
+-- `validity::valid_number` meets its contract: 7 to 9, 14 and 15 in this order. Assumes nothing.
 use borrow.Author.Needs.{needs}
 use mathlib.Core.Path.{sym, _∙_}
 use native.Mathlib.Omega.{arith}
-use Rattle.message_refusals.proofs.Message.{kind-zero, kind-over, slot-over, stamp-zero, revision-over, unused-set, no-number}
-use Rattle.message_refusals.proofs.valid_number.Statement.{statement}
-use Rattle.message_refusals.proofs.valid_number.Tie as tie
+use Rattle.validity.proofs.Validity.{kind-zero, kind-over, slot-over, stamp-zero, revision-over, unused-set, no-number}
+use Rattle.validity.proofs.valid_number.Statement.{statement}
+use Rattle.validity.proofs.valid_number.Tie as tie
 
 returns : tie.Need-returns
 returns c = let a = c .before .before .args in kind-zero (a .head) (a .message) (omega arith)

@@ -1,7 +1,7 @@
--- `stamps::exceeds` meets its contract: at equal stamps the revisions decide. Assumes nothing.
-use Rattle.stamps.proofs.Tests.{exceeds-stamp, exceeds-revision}
-use Rattle.stamps.proofs.exceeds.Statement.{statement}
-use Rattle.stamps.proofs.exceeds.Tie as tie
+-- `order::exceeds` meets its contract: at equal stamps the revisions decide. Assumes nothing.
+use Rattle.order.proofs.Order.{exceeds-stamp, exceeds-revision}
+use Rattle.order.proofs.exceeds.Statement.{statement}
+use Rattle.order.proofs.exceeds.Tie as tie
 
 returns : tie.Need-returns
 returns c = let a = c .before .args in exceeds-revision (a .stamp) (a .revision) (a .other) (a .other-revision) (c .if1 .taken)

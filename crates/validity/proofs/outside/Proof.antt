@@ -1,8 +1,8 @@
--- `message_refusals::outside` meets its contract: of the fields that the kind uses. Assumes nothing.
+-- `validity::outside` meets its contract: of the fields that the kind uses. Assumes nothing.
 use native.Mathlib.Omega.{arith}
-use Rattle.message_refusals.proofs.Message.{outside-operator, outside-ride, outside-operators, outside-rides}
-use Rattle.message_refusals.proofs.outside.Statement.{statement}
-use Rattle.message_refusals.proofs.outside.Tie as tie
+use Rattle.validity.proofs.Validity.{outside-operator, outside-ride, outside-operators, outside-rides}
+use Rattle.validity.proofs.outside.Statement.{statement}
+use Rattle.validity.proofs.outside.Tie as tie
 
 returns : tie.Need-returns
 returns c = let a = c .before .before .before .before .before .args in outside-operator (a .head) (a .message) (omega arith) (omega arith)

@@ -1,7 +1,7 @@
--- `stamps::gives` meets its contract: the kinds 1, 3 and 5 give. Assumes nothing.
-use Rattle.stamps.proofs.Tests.{gives-one, gives-three, gives-five}
-use Rattle.stamps.proofs.gives.Statement.{statement}
-use Rattle.stamps.proofs.gives.Tie as tie
+-- `order::gives` meets its contract: the kinds 1, 3 and 5 give. Assumes nothing.
+use Rattle.order.proofs.Order.{gives-one, gives-three, gives-five}
+use Rattle.order.proofs.gives.Statement.{statement}
+use Rattle.order.proofs.gives.Tie as tie
 
 returns : tie.Need-returns
 returns c = gives-one _ (c .if1 .taken)

@@ -1,8 +1,8 @@
--- `message_refusals::unused` meets its contract. Assumes nothing.
+-- `validity::unused` meets its contract. Assumes nothing.
 use native.Mathlib.Omega.{arith}
-use Rattle.message_refusals.proofs.Message.{uses-both, unused-ride, unused-operator}
-use Rattle.message_refusals.proofs.unused.Statement.{statement}
-use Rattle.message_refusals.proofs.unused.Tie as tie
+use Rattle.validity.proofs.Validity.{uses-both, unused-ride, unused-operator}
+use Rattle.validity.proofs.unused.Statement.{statement}
+use Rattle.validity.proofs.unused.Tie as tie
 
 returns : tie.Need-returns
 returns c = uses-both (c .before .before .args .message) (omega arith)
