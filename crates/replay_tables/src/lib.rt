@@ -83,15 +83,15 @@ fn peel(
 pub fn call(
     frame: &[u8],
     lent: Lent,
-    operators: &mut [u16; 12300],
-    rides: &mut [u16; 12300],
-    stamps: &mut [u32; 12300],
-    revisions: &mut [u16; 12300],
-    index: &mut [u16; 16000],
-    presence_stamps: &mut [u32; 270],
-    presence_revisions: &mut [u16; 270],
-    presence: &mut [u16; 270],
-    marks: &mut [u16; 270],
+    operators: &mut [u16],
+    rides: &mut [u16],
+    stamps: &mut [u32],
+    revisions: &mut [u16],
+    index: &mut [u16],
+    presence_stamps: &mut [u32],
+    presence_revisions: &mut [u16],
+    presence: &mut [u16],
+    marks: &mut [u16],
 ) {
     match frames::word(frame, 0) {
         1 => build(
