@@ -76,8 +76,9 @@ pub fn preview(
             head: spare_head,
         };
     }
-    copies::copy_board(
+    let d = previewing::take_on_copy(
         head,
+        message,
         operators,
         rides,
         stamps,
@@ -86,18 +87,6 @@ pub fn preview(
         presence_stamps,
         presence_revisions,
         presence,
-        spare_operators,
-        spare_rides,
-        spare_stamps,
-        spare_revisions,
-        spare_index,
-        spare_presence_stamps,
-        spare_presence_revisions,
-        spare_presence,
-    );
-    let d = taking::take(
-        head,
-        message,
         spare_operators,
         spare_rides,
         spare_stamps,
