@@ -6,11 +6,12 @@ use Prim.Native.Nat.{ℕ, _≤_, _<_}
 use native.Mathlib.Omega.{arith}
 use native.Mathlib.Decide.{ℕ-discrete}
 use lib.Dec.{T, ltb, eqb, ltb→lt}
-use borrow.Author.Tests.{lt-ltb, le-ltb, eq-eqb, ne-eqb}
+use borrow.Author.Tests.{le-ltb, eq-eqb, ne-eqb}
 use Rattle.model.specs.declared.Message.{Message}
 use Rattle.model.specs.Contents.{Entry, gives, later, giving, entry}
 use Rattle.model.proofs.Count.{by-test, test-true, test-false, bit-test}
 use Rattle.model.proofs.Chain.{enough}
+use Rattle.model.proofs.Later.{later-laws}
 use Rattle.order.specs.Order.{exceeds}
 
 -- ---- the kinds that give
@@ -54,14 +55,14 @@ module _ (m : Message) (last : Entry) where
   pub exceeds-later : exceeds (m .stamp) (m .revision) (last .stamp) (last .revision) ≡ true → later (entry m) last ≡ true
   exceeds-later e =
       exceeds-cases (m .stamp) (m .revision) (last .stamp) (last .revision) e
-      (λ l. rw (lt-ltb (last .stamp) (m .stamp) l))
-      (λ q l. rw (le-ltb (last .stamp) (m .stamp) (omega arith), eq-eqb (m .stamp) (last .stamp) q, lt-ltb (last .revision) (m .revision) l))
+      (λ l. test-true (later (entry m) last) (later-laws .stamp (entry m) last l))
+      (λ q l. test-true (later (entry m) last) (later-laws .revision (entry m) last q l))
 
   pub exceeded-earlier : exceeds (last .stamp) (last .revision) (m .stamp) (m .revision) ≡ true → later (entry m) last ≡ false
   exceeded-earlier e =
       exceeds-cases (last .stamp) (last .revision) (m .stamp) (m .revision) e
-      (λ l. rw (le-ltb (last .stamp) (m .stamp) (omega arith), ne-eqb (m .stamp) (last .stamp) (omega arith)))
-      (λ q l. rw (le-ltb (last .stamp) (m .stamp) (omega arith), eq-eqb (m .stamp) (last .stamp) (sym q), le-ltb (last .revision) (m .revision) (omega arith), ne-eqb (m .revision) (last .revision) (omega arith)))
+      (λ l. test-false (later (entry m) last) (λ t. later-laws .one-way (entry m) last t (later-laws .stamp last (entry m) l)))
+      (λ q l. test-false (later (entry m) last) (λ t. later-laws .one-way (entry m) last t (later-laws .revision last (entry m) q l)))
 
   -- at equal stamps and revisions a message that takes away is later than one that gives
   pub tied : exceeds (m .stamp) (m .revision) (last .stamp) (last .revision) ≡ false → exceeds (last .stamp) (last .revision) (m .stamp) (m .revision) ≡ false → later (entry m) last ≡ (not (giving (m .kind)) && gives last)
