@@ -44,8 +44,8 @@
  *
  * For firmware (docs/INTERFACE.md says more):
  * - x86-64, System V calling convention, SSE2 and no more; no use of the red zone below the stack pointer.
- * - Deepest stack in bytes, measured at 200 x 60 (docs/BENCHMARK.md): build 25,840, query 144, peel 27,840, message
- *   25,920, message list 26,016, preview 26,080.
+ * - Deepest stack in bytes, measured at 200 x 60 (docs/BENCHMARK.md): build 26,112, query 144, peel 28,640, message
+ *   26,160, message list 26,256, preview 26,368.
  * - No writable data; of the program it needs memcpy, memmove and memset at most.
  * - A reset in the middle of a call leaves a mixture of old and new words in what the call writes: build again from a
  *   pair table, and send the messages again. A preview writes the spare memory alone.
@@ -70,7 +70,7 @@ extern "C" {
 /* The version of this header (docs/CHANGELOG.md), as a number to compare: 1.2.3 is 10203. */
 #define BOARD_VERSION_MAJOR 3
 #define BOARD_VERSION_MINOR 0
-#define BOARD_VERSION_PATCH 0
+#define BOARD_VERSION_PATCH 1
 #define BOARD_VERSION (BOARD_VERSION_MAJOR * 10000 + BOARD_VERSION_MINOR * 100 + BOARD_VERSION_PATCH)
 
 /* Sizes */

@@ -18,41 +18,54 @@ pub struct Tables {
     pub presence: Vec<u16>,
 }
 
-fn misplaced(n: u16, m: u16, operators: &[u16], rides: &[u16], i: usize) -> bool {
-    let (u, v) = (operators[i], rides[i]);
-    if n <= u || m <= v {
-        return true;
-    }
-    if i == 0 {
-        return false;
-    }
-    let (u0, v0) = (operators[i - 1], rides[i - 1]);
-    !(u0 < u || (u0 == u && v0 < v))
+/// 1 where a pair is out of range, or not after the one before it.
+fn misplaced(n: u16, m: u16, (u0, v0): (u16, u16), (u, v): (u16, u16)) -> u16 {
+    ((n <= u) | (m <= v) | (u < u0) | ((u == u0) & (v <= v0))) as u16
 }
 
 fn ascending(n: u16, m: u16, pairs: u16, operators: &[u16], rides: &[u16]) -> bool {
-    (0..pairs as usize).all(|i| !misplaced(n, m, operators, rides, i))
+    let (operators, rides) = (&operators[..pairs as usize], &rides[..pairs as usize]);
+    let behind = operators.windows(2).zip(rides.windows(2));
+    let first = pairs == 0 || (operators[0] < n && rides[0] < m);
+    first && behind.map(|(u, v)| misplaced(n, m, (u[0], v[0]), (u[1], v[1]))).sum::<u16>() == 0
 }
 
-/// Fills two tables of zeros with the pairs that count: the operator is on and the ride is in.
-fn fill(n: usize, operators: &[u16], rides: &[u16], presence: &[u16], by_operator: &mut [u8], by_ride: &mut [u8]) {
+/// The degrees of the operators and of the rides.
+struct Degrees {
+    operators: [u8; 200],
+    rides: [u8; 60],
+}
+
+/// Reads the pairs once: tables of zeros are filled with those whose nodes are both here, and the degrees in these counted.
+fn tabulate(
+    n: usize,
+    operators: &[u16],
+    rides: &[u16],
+    here: &[u8],
+    by_operator: &mut [u8],
+    by_ride: &mut [u8],
+) -> Degrees {
+    let mut degrees = Degrees { operators: [0; 200], rides: [0; 60] };
+    let (mut last, mut degree) = (0, 0);
     for (&operator, &ride) in operators.iter().zip(rides) {
         let (u, v) = (operator as usize, ride as usize);
-        let counts = (presence[u] == PRESENT && presence[n + v] == PRESENT) as u8;
-        by_operator[u * 60 + v] = counts;
-        by_ride[v * 200 + u] = counts;
+        let one = here[u] & here[n + v];
+        by_operator[u * 60 + v] = one;
+        by_ride[v * 200 + u] = one;
+        degrees.rides[v] += one;
+        if u != last {
+            degree = degrees.operators[u];
+        }
+        degree += one;
+        degrees.operators[u] = degree;
+        last = u;
     }
+    degrees
 }
 
 fn subtract(degrees: &mut [u8], row: &[u8]) {
     for (degree, one) in degrees.iter_mut().zip(row) {
         *degree = degree.wrapping_sub(*one);
-    }
-}
-
-fn add(degrees: &mut [u8], row: &[u8]) {
-    for (degree, one) in degrees.iter_mut().zip(row) {
-        *degree = degree.wrapping_add(*one);
     }
 }
 
@@ -70,7 +83,7 @@ fn sweep(
 ) -> usize {
     let mut removed = 0;
     for i in 0..kept.len() {
-        if kept[i] == 1 && degrees[i] < limit {
+        if kept[i] & (degrees[i] < limit) as u8 != 0 {
             kept[i] = 0;
             levels[i] = level;
             let at = i * width;
@@ -114,11 +127,11 @@ fn fill_row(by_operator: &[u8], by_ride: &[u8], mut kept: Kept, n: usize, m: usi
 
 /// Fills the index with the levels of the pairs that count; the number of words that differ before and after.
 fn fill_index(n: usize, m: usize, operators: &[u16], rides: &[u16], presence: &[u16], index: &mut [u16]) -> u16 {
-    let (mut by_operator, mut by_ride) = ([0; 12000], [0; 12000]);
-    fill(n, operators, rides, presence, &mut by_operator, &mut by_ride);
-    let mut all = Kept { operators: [1; 200], rides: [1; 60], operator_degrees: [0; 200], ride_degrees: [0; 60] };
-    by_ride.chunks(200).take(m).for_each(|row| add(&mut all.operator_degrees[..n], row));
-    by_operator.chunks(60).take(n).for_each(|row| add(&mut all.ride_degrees[..m], row));
+    let (mut by_operator, mut by_ride, mut here) = ([0; 12000], [0; 12000], [0; 260]);
+    here.iter_mut().zip(&presence[..n + m]).for_each(|(bit, &word)| *bit = (word == PRESENT) as u8);
+    let degrees = tabulate(n, operators, rides, &here, &mut by_operator, &mut by_ride);
+    let all =
+        Kept { operators: [1; 200], rides: [1; 60], operator_degrees: degrees.operators, ride_degrees: degrees.rides };
     let high = all.operator_degrees[..n].iter().copied().max().unwrap_or(0);
     let mut row = [0; 260];
     let row = &mut row[..n + m];
@@ -317,16 +330,12 @@ impl Tables {
         let (n, m, pairs) = (self.operators as usize, self.rides as usize, self.pairs as usize);
         let (mut by_operator, mut by_ride) = ([0; 12000], [0; 12000]);
         let (operators, rides) = (&self.operator_numbers[..pairs], &self.ride_numbers[..pairs]);
-        fill(n, operators, rides, &self.presence, &mut by_operator, &mut by_ride);
-        let (mut degrees, mut limits) = ([0; 260], [0; 260]);
-        let common = |row: &[u8], marks: &[u16]| row.iter().zip(marks).map(|(a, b)| a * *b as u8).sum::<u8>();
-        for x in 0..n + m {
-            degrees[x] = if x < n {
-                common(&by_operator[x * 60..x * 60 + m], &marks[n..])
-            } else {
-                common(&by_ride[(x - n) * 200..(x - n) * 200 + n], &marks[..n])
-            };
-        }
+        let (mut here, mut degrees, mut limits) = ([0; 260], [0; 260], [0; 260]);
+        let words = self.presence[..n + m].iter().zip(&*marks);
+        here.iter_mut().zip(words).for_each(|(bit, (&word, &mark))| *bit = (word == PRESENT) as u8 & (mark == 1) as u8);
+        let start = tabulate(n, operators, rides, &here, &mut by_operator, &mut by_ride);
+        degrees[..n].copy_from_slice(&start.operators[..n]);
+        degrees[n..n + m].copy_from_slice(&start.rides[..m]);
         let (degrees, limits) = (&mut degrees[..n + m], &mut limits[..n + m]);
         limits[..n].fill(alpha);
         limits[n..].fill(beta);

@@ -1,2 +1,2 @@
-pub mod Added
-pub mod Rows
+pub mod Counted
+pub mod Reading

@@ -1,32 +1,37 @@
--- Inner contracts: the degrees of the nodes inside marks, from tables of the clearances.
+-- Inner contracts, document 02, 2.5: the one reading of a pair table, after each of its places, and the degrees that rows and peels start from.
 use mathlib.Core.Path.{_≡_}
-use mathlib.Core.Bool.{_&&_}
+use mathlib.Core.Bool.{Bool}
 use mathlib.Core.List.{List}
-use Prim.Native.Nat.{ℕ, _≤_, _<_}
+use Prim.Native.Nat.{ℕ, _+_, _≤_, _<_}
 use lib.ListN.{length, getD}
-use Rattle.model.specs.Count.{count}
-use Rattle.model.specs.Graph.{Graph, nodes, degree, marked}
-use Rattle.tables.specs.Table.{Tables}
+use Rattle.model.specs.declared.Head.{Head}
+use Rattle.model.specs.Count.{bit}
+use Rattle.model.specs.Graph.{Graph, degree, everybody, counting}
+use Rattle.model.specs.Layout.{mark-places, listed, sized}
+use Rattle.tables.specs.Table.{Tables, table-graph}
 
--- what the degrees of g are counted from: its sizes and tables, and marks for all its nodes, each 0 or 1
-pub record Ready (g : Graph) (n m : ℕ) (rows columns marks : List ℕ) : Type 0 where
-  pub operators : n ≡ g .operators
-  pub rides : m ≡ g .rides
-  pub tables : Tables g rows columns
-  pub room : nodes g ≤ length marks
-  pub in-use : (x : ℕ) → x < nodes g → getD marks x 0 ≤ 1
+-- a byte for each node: 1 where it is here, else 0
+pub record Bytes (h : Head) (here : ℕ → Bool) (bytes : List ℕ) : Type 0 where
+  pub long : mark-places h ≤ length bytes
+  pub bits : (x : ℕ) → x < mark-places h → getD bytes x 0 ≡ bit (here x)
 
--- the degrees of all operators and rides inside the marks
-abbrev pub MarkedDegrees : Graph → List ℕ → List ℕ → Type 0
-MarkedDegrees g marks degrees = (x : ℕ) → x < nodes g → getD degrees x 0 ≡ degree g (marked marks) x
+-- of the first k pairs of a pair table those that count: both of their nodes are here
+abbrev pub first-pairs : Head → List ℕ → List ℕ → (ℕ → Bool) → ℕ → Graph
+first-pairs h operators rides here k = counting (sized h (listed k operators rides)) here
 
--- a row beside as many marks, at most 200, all of them 0 or 1
-pub record Beside (row marks : List ℕ) : Type 0 where
-  pub size : length row ≡ length marks
-  pub most : length row ≤ 200
-  pub row-bit : (i : ℕ) → i < length row → getD row i 0 ≤ 1
-  pub mark-bit : (i : ℕ) → i < length row → getD marks i 0 ≤ 1
+-- both arrays, the operators' and the rides', are the degrees in the pairs of g
+pub record BothDegrees (g : Graph) (operators rides : List ℕ) : Type 0 where
+  pub operators-long : length operators ≡ 200
+  pub rides-long : length rides ≡ 60
+  pub operator-degrees : (u : ℕ) → u < g .operators → getD operators u 0 ≡ degree g everybody u
+  pub ride-degrees : (v : ℕ) → v < g .rides → getD rides v 0 ≡ degree g everybody (g .operators + v)
 
--- how many of the first k places hold a 1 in both lists
-abbrev pub common-ones : ℕ → List ℕ → List ℕ → ℕ
-common-ones k a b = count k (λ i. marked a i && marked b i)
+-- Degrees in one pass: after k places of the reading both arrays are the degrees in the first k pairs, of those that count, and both tables hold these
+pub record ReadUpTo (k : ℕ) (h : Head) (operators rides : List ℕ) (here : ℕ → Bool) (by-operator by-ride operator-degrees ride-degrees : List ℕ) : Type 0 where
+  pub tables : Tables (first-pairs h operators rides here k) by-operator by-ride
+  pub degrees : BothDegrees (first-pairs h operators rides here k) operator-degrees ride-degrees
+
+-- what the rows of n operators and m rides are filled from: the two tables, and the degrees in the pairs that they hold
+pub record Tabulated (n m : ℕ) (by-operator by-ride operator-degrees ride-degrees : List ℕ) : Type 0 where
+  pub tables : Tables (table-graph n m by-operator) by-operator by-ride
+  pub degrees : BothDegrees (table-graph n m by-operator) operator-degrees ride-degrees

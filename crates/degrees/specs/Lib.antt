@@ -1,2 +1,1 @@
 pub mod Degrees
-pub mod Everybody

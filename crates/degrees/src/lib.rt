@@ -1,139 +1,120 @@
-// The degrees of all nodes: inside everybody, and inside given marks. The tables of clearances are lent by operator, in rows of 60 rides, and by
-// ride, in rows of 200 operators.
+// The one reading of a pair table: its pairs that count fill the dense tables of clearances, and the degrees of the operators and of the rides.
 ghost use mathlib.Core.Path.{_≡_};
-ghost use Prim.Native.Nat.{ℕ, _+_, _≤_, _<_};
+ghost use mathlib.Core.Bool.{Bool, _&&_};
+ghost use Prim.Native.Nat.{ℕ, _≤_, _<_};
+ghost use lib.Dec.{eqb};
 ghost use lib.ListN.{length, getD};
-ghost use Rattle.model.specs.Count.{count};
-ghost use Rattle.model.specs.Graph.{Graph, degree, marked};
-ghost use Rattle.model.specs.Layout.{counting-graph, mark-places};
+ghost use Rattle.model.specs.Count.{bit};
+ghost use Rattle.model.specs.Graph.{marked, present as is-present};
+ghost use Rattle.model.specs.Layout.{mark-places};
 ghost use Rattle.pairs.specs.Accepted.{AcceptedPairs};
-ghost use Rattle.tables.specs.Table.{Table, Tables, ZeroTables, joined, table-graph};
-ghost use Rattle.degrees.specs.Degrees.{Ready, MarkedDegrees, Beside, common-ones};
-ghost use Rattle.degrees.specs.Everybody.{Everybody, Tabulated};
+ghost use Rattle.tables.specs.Table.{ZeroTables};
+ghost use Rattle.degrees.specs.Degrees.{Bytes, ReadUpTo};
 use model::Head;
 
-// The degrees of the columns of a table: how many of its rows each is joined with.
-fn add_rows(degrees: &mut [u8], table: &[u8], width: usize, height: usize)
-    requires { ⌜ Table (joined (now table) width) height (length (now degrees)) width (now table) × (height ≤ 255) ⌝ }
-    requires { ⌜ ((j : ℕ) → j < length (now degrees) → getD (now degrees) j 0 ≡ 0) ⌝ }
-    ensures { λ _. ⌜
-        ((j : ℕ) → j < length (now (degrees .entry)) → getD (now (degrees .exit)) j 0 ≡ count height (λ i. joined (now (table .entry)) width i j))
-        ⌝ }
+// 1 where a word is 1.
+fn is_one(word: u16) -> u8
+    ensures { λ r. ⌜ r ≡ bit (eqb word 1) ⌝ }
 {
-    let n = degrees.len();
-    let mut i = 0;
-    while i < height {
-        let at = i * width;
-        let end = at + n;
-        tables::add(degrees, &table[at..end]);
-        i += 1;
-    }
+    if word == 1 { 1 } else { 0 }
 }
 
-// The degrees inside everybody.
+// 1 where two bits are both 1.
+fn both(a: u8, b: u8) -> u8
+    requires { ⌜ (a ≤ 1) × (b ≤ 1) ⌝ }
+    ensures { λ r. ⌜ r ≡ bit (eqb a 1 && eqb b 1) ⌝ }
+{
+    a & b
+}
+
+// Who is here for the index: whoever is present.
+pub fn present(head: Head, presence: &[u16]) -> [u8; 260]
+    requires { ⌜ (mark-places head ≤ length (now presence)) × (mark-places head ≤ 260) ⌝ }
+    ensures { λ r. ⌜ Bytes head (is-present (now (presence .entry))) r ⌝ }
+{
+    let nodes = head.operators as usize + head.rides as usize;
+    let mut here = [0u8; 260];
+    let mut x = 0;
+    while x < nodes {
+        here[x] = is_one(presence[x]);
+        x += 1;
+    }
+    here
+}
+
+// Who is here for a peel: whoever is present and marked.
+pub fn present_and_marked(head: Head, presence: &[u16], marks: &[u16]) -> [u8; 260]
+    requires { ⌜ (mark-places head ≤ length (now presence)) × (mark-places head ≤ length (now marks)) × (mark-places head ≤ 260) ⌝ }
+    ensures { λ r. ⌜ Bytes head (λ x. is-present (now (presence .entry)) x && marked (now (marks .entry)) x) r ⌝ }
+{
+    let nodes = head.operators as usize + head.rides as usize;
+    let mut here = [0u8; 260];
+    let mut x = 0;
+    while x < nodes {
+        here[x] = both(is_one(presence[x]), is_one(marks[x]));
+        x += 1;
+    }
+    here
+}
+
+// The degree of operator u so far. Pairs are in order of operators: where the pair before was u's too, it is at hand, and the byte just stored isn't waited for.
+fn so_far(degrees: &[u8], u: usize, last: usize, degree: u8) -> u8
+    requires { ⌜ (u < length (now degrees)) × (degree ≡ getD (now degrees) last 0) ⌝ }
+    ensures { λ r. ⌜ r ≡ getD (now (degrees .entry)) u 0 ⌝ }
+{
+    if u == last {
+        return degree;
+    }
+    degrees[u]
+}
+
+// The degrees of the operators and of the rides.
 pub struct Degrees {
     pub operators: [u8; 200],
     pub rides: [u8; 60],
 }
 
-// The degrees of n operators and m rides inside everybody.
-fn everybody(by_operator: &[u8], by_ride: &[u8], n: usize, m: usize) -> Degrees
-    requires { ⌜ Tables (table-graph n m (now «by_operator»)) (now «by_operator») (now «by_ride») ⌝ }
-    ensures { λ r. ⌜ Everybody (table-graph n m (now («by_operator» .entry))) (r .operators) (r .rides) ⌝ }
-{
-    let mut operators = [0u8; 200];
-    let mut rides = [0u8; 60];
-    add_rows(&mut operators[0..n], by_ride, 200, m);
-    add_rows(&mut rides[0..m], by_operator, 60, n);
-    Degrees { operators, rides }
-}
-
-// Fills tables of zeros with the pairs of a pair table that count; the degrees inside everybody.
+// Reads a pair table once: tables of zeros are filled with the pairs whose nodes are both here, and the degrees in these pairs counted.
 pub fn tabulate(
     head: Head,
     operators: &[u16],
     rides: &[u16],
-    presence: &[u16],
+    here: &[u8],
     by_operator: &mut [u8],
     by_ride: &mut [u8],
 ) -> Degrees
     requires { ⌜
-        AcceptedPairs head (now operators) (now rides) × (mark-places head ≤ length (now presence)) × ZeroTables (now «by_operator») (now «by_ride»)
+        AcceptedPairs head (now operators) (now rides) × ((on : ℕ → Bool) × Bytes head on (now here)) × ZeroTables (now «by_operator») (now «by_ride»)
         ⌝ }
     ensures { λ r. ⌜
-        Tables (counting-graph head (now (operators .entry)) (now (rides .entry)) (now (presence .entry)))
-        (now («by_operator» .exit)) (now («by_ride» .exit)) ×
-        Tabulated (head .operators) (head .rides) (now («by_operator» .exit)) (now («by_ride» .exit)) (r .operators) (r .rides)
+        ((on : ℕ → Bool) → Bytes head on (now (here .entry)) →
+        ReadUpTo (head .pairs) head (now (operators .entry)) (now (rides .entry)) on
+        (now («by_operator» .exit)) (now («by_ride» .exit)) (r .operators) (r .rides))
         ⌝ }
 {
     let n = head.operators as usize;
-    let m = head.rides as usize;
-    tables::fill(head, operators, rides, presence, by_operator, by_ride);
-    everybody(by_operator, by_ride, n, m)
-}
-
-// How many places have a 1 in the row and in the marks.
-fn common(row: &[u8], marks: &[u16]) -> u8
-    requires { ⌜ Beside (now row) (now marks) ⌝ }
-    ensures { λ r. ⌜ r ≡ common-ones (length (now (row .entry))) (now (row .entry)) (now (marks .entry)) ⌝ }
-{
-    let n = row.len();
-    let mut sum: u8 = 0;
-    let mut i = 0;
-    while i < n {
-        sum += row[i] * (marks[i] as u8);
-        i += 1;
+    let nodes = n + head.rides as usize;
+    let of_rides = &here[n..nodes];
+    let mut operator_degrees = [0u8; 200];
+    let mut ride_degrees = [0u8; 60];
+    let mut last = 0;
+    let mut degree: u8 = 0;
+    let mut k = 0;
+    // After k places, tables and degrees are of the first k pairs: no pair stands twice, so that each adds its own bit.
+    while k < head.pairs as usize {
+        let u = operators[k] as usize;
+        let v = rides[k] as usize;
+        let one = both(here[u], of_rides[v]);
+        by_operator[u * 60 + v] = one;
+        by_ride[v * 200 + u] = one;
+        ride_degrees[v] = ride_degrees[v] + one;
+        degree = so_far(&operator_degrees, u, last, degree) + one;
+        operator_degrees[u] = degree;
+        last = u;
+        k += 1;
     }
-    sum
-}
-
-// The degree of node x inside the marks.
-fn degree_of(
-    operators: usize,
-    rides: usize,
-    rows: &[u8],
-    columns: &[u8],
-    marks: &[u16],
-    x: usize,
-) -> u8
-    requires { ⌜ ((g : Graph) × Ready g operators rides (now rows) (now columns) (now marks)) ⌝ }
-    requires { ⌜ x < operators + rides ⌝ }
-    ensures { λ r. ⌜
-        ((g : Graph) → Ready g operators rides (now (rows .entry)) (now (columns .entry)) (now (marks .entry)) →
-        r ≡ degree g (marked (now (marks .entry))) x)
-        ⌝ }
-{
-    if x < operators {
-        let from = x * 60;
-        return common(
-            &rows[from..from + rides],
-            &marks[operators..operators + rides],
-        );
-    }
-    let from = (x - operators) * 200;
-    common(&columns[from..from + operators], &marks[0..operators])
-}
-
-// Fills in the degrees of all nodes inside the marks.
-pub fn fill(
-    operators: usize,
-    rides: usize,
-    rows: &[u8],
-    columns: &[u8],
-    marks: &[u16],
-    degrees: &mut [u8],
-)
-    requires { ⌜ ((g : Graph) × Ready g operators rides (now rows) (now columns) (now marks)) ⌝ }
-    requires { ⌜ operators + rides ≤ length (now degrees) ⌝ }
-    ensures { λ _. ⌜
-        ((g : Graph) → Ready g operators rides (now (rows .entry)) (now (columns .entry)) (now (marks .entry)) →
-        MarkedDegrees g (now (marks .entry)) (now (degrees .exit)))
-        ⌝ }
-{
-    let nodes = operators + rides;
-    let mut x = 0;
-    while x < nodes {
-        degrees[x] = degree_of(operators, rides, rows, columns, marks, x);
-        x += 1;
+    Degrees {
+        operators: operator_degrees,
+        rides: ride_degrees,
     }
 }

@@ -6,7 +6,7 @@ ghost use Rattle.model.specs.Graph.{row as levels-row, index-of};
 ghost use Rattle.model.specs.Layout.{over, counting-graph, mark-places, index-places, differing};
 ghost use Rattle.pairs.specs.Accepted.{AcceptedPairs};
 ghost use Rattle.tables.specs.Table.{ZeroTables, table-graph};
-ghost use Rattle.degrees.specs.Everybody.{Tabulated};
+ghost use Rattle.degrees.specs.Degrees.{Tabulated};
 use degrees::Degrees;
 use model::Head;
 
@@ -138,7 +138,8 @@ fn fill_over(
     let n = head.operators as usize;
     let m = head.rides as usize;
     let w = n + m;
-    let degrees = degrees::tabulate(head, operators, rides, presence, by_operator, by_ride);
+    let here = degrees::present(head, presence);
+    let degrees = degrees::tabulate(head, operators, rides, &here, by_operator, by_ride);
     let high = largest_of(degrees, n);
     fill_rows(
         by_operator,

@@ -11,6 +11,7 @@ use native.Mathlib.Decide.{decLt, ℕ-discrete}
 use lib.Dec.{T, ltb, eqb, ltb→lt, lt→ltb}
 use borrow.Author.Tests.{lt-ltb, le-ltb}
 use lib.Arith.{digits-lt}
+use lib.Bits.{bitAnd}
 use lib.ListN.{length, getD, length-append, List·getD-append}
 use lib.Seq.{getD-append-add, getD-append-seam}
 use Rattle.model.specs.Count.{bit, count, some, lowest, values, rows}
@@ -67,6 +68,15 @@ pub and-false : (a b : Bool) → b ≡ false → (a && b) ≡ false
 and-false true b e = e
 and-false false b e = refl
 
+-- two tests that agree where a third one passes agree beside it
+pub and-same-left : (a b s : Bool) → (T s → a ≡ b) → (a && s) ≡ (b && s)
+and-same-left a b true f = ap (λ (z : Bool). z && true) (f tt)
+and-same-left a b false f = and-false a false refl ∙ sym (and-false b false refl)
+
+pub and-same-right : (s a b : Bool) → (T s → a ≡ b) → (s && a) ≡ (s && b)
+and-same-right true a b f = f tt
+and-same-right false a b f = refl
+
 pub or-false : (a : Bool) → (a || false) ≡ a
 or-false true = refl
 or-false false = refl
@@ -75,6 +85,19 @@ or-false false = refl
 pub bit-test : (b : Bool) → eqb (bit b) 1 ≡ b
 bit-test true = refl
 bit-test false = refl
+
+-- a number up to 1 is a bit
+pub bit-of : (x : ℕ) → x ≤ 1 → x ≡ bit (eqb x 1)
+bit-of zero h = refl
+bit-of (suc zero) h = refl
+bit-of (suc (suc x)) h = absurd (let z : ⊥ = omega arith in z)
+
+-- what two bits have in common
+pub bits-and : (a b : Bool) → bitAnd (bit a) (bit b) ≡ bit (a && b)
+bits-and true true = refl
+bits-and true false = refl
+bits-and false true = refl
+bits-and false false = refl
 
 pub bit-le : (b : Bool) → bit b ≤ 1
 bit-le true = omega arith

@@ -278,7 +278,7 @@ module _ (g : Graph) (limit : ℕ → ℕ) where
       (λ f s x xs l rest n. ap suc (rest n))
 
   -- a peel takes nobody in
-  peel-inside : (f : ℕ) (s : List ℕ) (y : ℕ) → T (marked (peel g limit f s) y) → T (marked s y)
+  pub peel-inside : (f : ℕ) (s : List ℕ) (y : ℕ) → T (marked (peel g limit f s) y) → T (marked s y)
   unfolding peel without
   peel-inside =
       removals-ind g limit

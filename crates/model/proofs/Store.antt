@@ -21,6 +21,14 @@ module _ (f : ℕ → ℕ) (l₀ l : List ℕ) (i v : ℕ) (fits : i < length l)
   pub left-alone : ((k : ℕ) → i ≤ k → getD l k 0 ≡ getD l₀ k 0) → (k : ℕ) → i + 1 ≤ k → getD (set l i v) k 0 ≡ getD l₀ k 0
   left-alone rest k h = getD-set-other l i k v 0 (omega arith) ∙ rest k (omega arith)
 
+-- the first n of a list, as code lends them
+module _ (l : List ℕ) (n : ℕ) (h : n ≤ length l) where
+  pub first-length : length (take (n - 0) l) ≡ n
+  first-length = simp length-take (omega arith)
+
+  pub first-at : (i d : ℕ) → i < n → getD (take (n - 0) l) i d ≡ getD l i d
+  first-at i d k = getD-take (n - 0) l i d (omega arith)
+
 -- the part of a list from a on, b long, as code lends it
 module _ (l : List ℕ) (a b : ℕ) (inside : a + b ≤ length l) where
   pub part-length : length (take (a + b - a) (drop a l)) ≡ b

@@ -1,2 +1,3 @@
-pub mod Limits
+pub mod Same
+pub mod Marked
 pub mod Whole

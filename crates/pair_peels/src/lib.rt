@@ -1,14 +1,15 @@
-// The peel of a pair table: its tables and its limits are filled, and marks are cleared.
-ghost use Prim.Native.Nat.{ℕ, _<_, _≤_};
-ghost use lib.ListN.{length, getD};
+// The peel of a pair table: its pairs are read, its limits filled, and marks are cleared.
+ghost use Prim.Native.Nat.{_≤_};
+ghost use lib.ListN.{length};
 ghost use Rattle.model.specs.Graph.{Graph};
 ghost use Rattle.model.specs.Layout.{counting-graph, mark-places};
 ghost use Rattle.model.specs.Calls.{peeled, peel-limits};
 ghost use Rattle.pairs.specs.Accepted.{AcceptedPairs};
-ghost use Rattle.tables.specs.Table.{ZeroTables};
+ghost use Rattle.tables.specs.Table.{Tables, ZeroTables};
 ghost use Rattle.limits.specs.Limits.{limit-of};
-ghost use Rattle.degrees.specs.Degrees.{Ready};
+ghost use Rattle.states.specs.Steps.{Ready};
 ghost use Rattle.pair_peels.specs.Peel.{Gives};
+use degrees::Degrees;
 use model::Head;
 use model::Peeled;
 use states::State;
@@ -18,21 +19,23 @@ fn peel_tables(
     head: Head,
     rows: &[u8],
     columns: &[u8],
+    degrees: Degrees,
     limits: &[u16],
     marks: &mut [u16],
     allowed: u16,
 ) -> Peeled
-    requires { ⌜ ((g : Graph) × Ready g (head .operators) (head .rides) (now rows) (now columns) (now marks)) ⌝ }
-    requires { ⌜ mark-places head ≤ length (now limits) ⌝ }
+    requires { ⌜
+        ((g : Graph) × Ready g head (degrees .operators) (degrees .rides) (now marks) × Tables g (now rows) (now columns)) ×
+        (mark-places head ≤ length (now limits))
+        ⌝ }
     ensures { λ r. ⌜
-        ((g : Graph) →
-        Ready g (head .operators) (head .rides) (now (rows .entry)) (now (columns .entry)) (now (marks .entry)) →
+        ((g : Graph) → Ready g head (degrees .operators) (degrees .rides) (now (marks .entry)) → Tables g (now (rows .entry)) (now (columns .entry)) →
         Gives (peeled g (limit-of (now (limits .entry))) allowed (now (marks .entry))) r (now (marks .exit)))
         ⌝ }
 {
     let operators = head.operators as usize;
     let rides = head.rides as usize;
-    let first = State::start(head, rows, columns, marks);
+    let first = State::start(head, degrees, marks);
     let last = peeling::run(first, rows, columns, limits, allowed);
     let left = last.marks;
     words::copy(&left, marks, operators + rides);
@@ -64,7 +67,6 @@ pub fn peel_over(
         (mark-places head ≤ length (now limits)) ×
         (mark-places head ≤ length (now marks))
         ⌝ }
-    requires { ⌜ ((x : ℕ) → x < mark-places head → getD (now marks) x 0 ≤ 1) ⌝ }
     ensures { λ r. ⌜
         Gives
         (peeled (counting-graph head (now (operators .entry)) (now (rides .entry)) (now (presence .entry)))
@@ -72,7 +74,8 @@ pub fn peel_over(
         r (now (marks .exit))
         ⌝ }
 {
-    tables::fill(head, operators, rides, presence, by_operator, by_ride);
+    let here = degrees::present_and_marked(head, presence, marks);
+    let degrees = degrees::tabulate(head, operators, rides, &here, by_operator, by_ride);
     limits::fill(head, presence, alpha, beta, limits);
-    peel_tables(head, by_operator, by_ride, limits, marks, steps)
+    peel_tables(head, by_operator, by_ride, degrees, limits, marks, steps)
 }

@@ -1,40 +1,51 @@
 // The pair arrays: the check of their order and range, and the place of a pair.
 ghost use mathlib.Core.Path.{_≡_};
-ghost use mathlib.Core.Bool.{not, _&&_};
+ghost use mathlib.Core.Bool.{false, not, _&&_, _||_};
 ghost use Prim.Native.Nat.{_<_, _≤_};
 ghost use lib.Dec.{ltb};
 ghost use lib.ListN.{length};
+ghost use Rattle.model.specs.Count.{bit, count};
 ghost use Rattle.model.specs.Layout.{pair-at, listed};
-ghost use Rattle.model.specs.Refusal.{misplaced as misplaced-at, refused-5};
+ghost use Rattle.model.specs.Refusal.{before, out-of-range, misplaced as misplaced-at, refused-5};
 ghost use Rattle.pairs.specs.Accepted.{AcceptedPairs};
 ghost use Rattle.pairs.specs.Place.{FirstPlace};
 use model::Head;
 
-// Whether the pair at place i is out of range, or not after the one before it.
-fn misplaced(head: Head, operators: &[u16], rides: &[u16], i: usize) -> bool
-    requires { ⌜ (i < length (now operators)) × (i < length (now rides)) ⌝ }
-    ensures { λ r. ⌜ r ≡ misplaced-at head (now (operators .entry)) (now (rides .entry)) i ⌝ }
+// 1 where a pair is out of range, or not after the one before it. By value, so that a loop over places has no branches.
+fn misplaced(head: Head, u0: u16, v0: u16, u: u16, v: u16) -> u16
+    ensures { λ r. ⌜ r ≡ bit (out-of-range head u v || not (before u0 v0 u v)) ⌝ }
 {
-    let u = operators[i];
-    let v = rides[i];
     if head.operators <= u {
-        return true;
+        return 1;
     }
     if head.rides <= v {
-        return true;
+        return 1;
     }
-    if i == 0 {
-        return false;
-    }
-    let u0 = operators[i - 1];
-    let v0 = rides[i - 1];
     if u0 < u {
-        return false;
+        return 0;
     }
-    if u0 == u {
-        return v <= v0;
+    if u0 != u {
+        return 1;
     }
-    true
+    if v <= v0 { 1 } else { 0 }
+}
+
+// How many pairs are misplaced, where the first is not.
+fn count_misplaced(head: Head, operators: &[u16], rides: &[u16]) -> u16
+    requires { ⌜
+        (head .pairs ≤ length (now operators)) × (head .pairs ≤ length (now rides)) ×
+        (1 ≤ head .pairs) × (misplaced-at head (now operators) (now rides) 0 ≡ false)
+        ⌝ }
+    ensures { λ r. ⌜ r ≡ count (head .pairs) (misplaced-at head (now (operators .entry)) (now (rides .entry))) ⌝ }
+{
+    let pairs = head.pairs as usize;
+    let mut sum = 0;
+    let mut i = 1;
+    while i < pairs {
+        sum += misplaced(head, operators[i - 1], rides[i - 1], operators[i], rides[i]);
+        i += 1;
+    }
+    sum
 }
 
 // Whether the listed pairs are in range and strictly ascending: document 01's number 5 does not apply.
@@ -42,15 +53,16 @@ pub fn ascending(head: Head, operators: &[u16], rides: &[u16]) -> bool
     requires { ⌜ (head .pairs ≤ length (now operators)) × (head .pairs ≤ length (now rides)) ⌝ }
     ensures { λ r. ⌜ r ≡ not (refused-5 head (now (operators .entry)) (now (rides .entry))) ⌝ }
 {
-    let pairs = head.pairs as usize;
-    let mut i = 0;
-    while i < pairs {
-        if misplaced(head, operators, rides, i) {
-            return false;
-        }
-        i += 1;
+    if head.pairs == 0 {
+        return true;
     }
-    true
+    if head.operators <= operators[0] {
+        return false;
+    }
+    if head.rides <= rides[0] {
+        return false;
+    }
+    count_misplaced(head, operators, rides) == 0
 }
 
 // The first place whose pair is not before (operator, ride), by halving: pairs are in order as their numbers are.

@@ -19,7 +19,7 @@ fn fill_levels(h: Head, operators: &[u16], rides: &[u16], alpha: u16, row: &mut 
     if alpha <= h.rides {
         let n = h.operators as usize;
         let m = h.rides as usize;
-        let everybody = [1u16; 260];
+        let everybody = [1u8; 260];
         let mut by_operator = [0u8; 12000];
         let mut by_ride = [0u8; 12000];
         let degrees = degrees::tabulate(

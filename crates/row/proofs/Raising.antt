@@ -178,6 +178,7 @@ module _ (n m : ℕ) (t t′ : List ℕ) (α β : ℕ) (a : 1 ≤ α) (b : 1 ≤
         };
         degrees-long = omega (arith, fits .rides, fits .ride-degrees);
         levels-long = omega (arith, fits .rides);
+        bits = λ v h. raising .ride-bits v (omega (arith, fits .rides));
         counted = λ j h.
             raising .operator-degrees j (omega (arith, fits .operator-degrees)) ∙
             count-ext (λ (v : ℕ). joined t 60 j v && marked (w .rides) v) (λ (v : ℕ). joined t′ 200 v j && marked (w .rides) v) m (λ v l. ap (λ (z : Bool). z && marked (w .rides) v) (sym (mirrored j v (omega (arith, fits .operator-degrees)) l))) ∙
@@ -194,6 +195,7 @@ module _ (n m : ℕ) (t t′ : List ℕ) (α β : ℕ) (a : 1 ≤ α) (b : 1 ≤
         };
         degrees-long = omega (arith, fits .operators, fits .operator-degrees);
         levels-long = omega (arith, fits .operators);
+        bits = λ u h. raising .operator-bits u (omega (arith, fits .operators));
         counted = λ j h.
             raising .ride-degrees j (omega (arith, fits .ride-degrees)) ∙
             ap (λ (k : ℕ). count k (λ (u : ℕ). joined t 60 u j && marked (w .operators) u)) (sym (fits .operators));
@@ -235,6 +237,8 @@ module _ (n m : ℕ) (t t′ : List ℕ) (α β : ℕ) (a : 1 ≤ α) (b : 1 ≤
         (raising .within)
         (raising .levels) in
         record {
+          operator-bits = raising .operator-bits;
+          ride-bits = λ v h. swept .bits v (omega (arith, fits .rides));
           operator-degrees = λ u h.
               swept .others-is u (omega arith) ∙
               ap (λ (k : ℕ). count k (λ (v : ℕ). joined t′ 200 v u && marked rides v)) (fits .rides) ∙
@@ -278,6 +282,8 @@ module _ (n m : ℕ) (t t′ : List ℕ) (α β : ℕ) (a : 1 ≤ α) (b : 1 ≤
         (raising .within)
         (raising .levels) in
         record {
+          operator-bits = λ u h. swept .bits u (omega (arith, fits .operators));
+          ride-bits = raising .ride-bits;
           operator-degrees = raising .operator-degrees;
           ride-degrees = λ v h. swept .others-is v (omega arith) ∙ ap (λ (k : ℕ). count k (λ (u : ℕ). joined t 60 u v && marked operators u)) (fits .operators);
           holds = d .0;
@@ -414,6 +420,8 @@ module _ (n m : ℕ) (t t′ : List ℕ) (α : ℕ) (a : 1 ≤ α) (w : Work) (f
   pub raising-start : Start gʳ w → Raising gʳ α 1 w
   raising-start start =
       record {
+        operator-bits = λ u h. omega (arith, eqb→eq (getD (w .operators) u 0) 1 (start .operators u h));
+        ride-bits = λ v h. omega (arith, eqb→eq (getD (w .rides) v 0) 1 (start .rides v h));
         operator-degrees = λ u h. start .operator-degrees u h ∙ degree-operator gʳ everybody u h ∙ count-ext (λ (v : ℕ). joined t 60 u v && true) (λ (v : ℕ). joined t 60 u v && marked (w .rides) v) m (λ v l. ap (λ (z : Bool). joined t 60 u v && z) (sym (test-true (marked (w .rides) v) (start .rides v l))));
         ride-degrees = λ v h. start .ride-degrees v h ∙ degree-ride gʳ everybody (n + v) (omega arith) ∙ count-ext (λ (u : ℕ). joined t 60 u (n + v - n) && true) (λ (u : ℕ). joined t 60 u v && marked (w .operators) u) n (λ u l. ap₂ (λ (y : ℕ) (z : Bool). joined t 60 u y && z) (let e : n + v - n ≡ v = omega arith in e) (sym (test-true (marked (w .operators) u) (start .operators u l))));
         holds = λ x h c. all x h;
@@ -443,6 +451,8 @@ module _ (n m : ℕ) (t t′ : List ℕ) (α : ℕ) (a : 1 ≤ α) (w : Work) (f
     pub raising-next : β ≤ r → Raising gʳ α (r + 1) w
     raising-next l =
         record {
+          operator-bits = raising .operator-bits;
+          ride-bits = raising .ride-bits;
           operator-degrees = raising .operator-degrees;
           ride-degrees = raising .ride-degrees;
           holds = λ x h c. raising .holds x h (cover-laws .nest gʳ α α β (r + 1) (omega arith) (omega arith) x h c);

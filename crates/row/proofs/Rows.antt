@@ -6,14 +6,14 @@ use native.Mathlib.Omega.{arith}
 use lib.Dec.{T, eqb}
 use lib.ListN.{length, getD, take}
 use Rattle.model.specs.Graph.{row}
+use Rattle.model.proofs.Store.{first-length, first-at}
 use Rattle.tables.specs.Table.{Tables, table-graph}
-use Rattle.degrees.specs.Everybody.{Everybody}
-use Rattle.degrees.proofs.Added.{first-length, first-at}
+use Rattle.degrees.specs.Degrees.{BothDegrees}
 use Rattle.row.specs.Row.{Work, work, Fits, Start}
 
 module _ (n m : ℕ) (t t′ : List ℕ) (tables : Tables (table-graph n m t) t t′) where
   -- the work lists of a row, all kept
-  module _ (ones od ones′ rd levels : List ℕ) (l₁ : length ones ≡ 200) (l₂ : length od ≡ 200) (l₃ : length ones′ ≡ 60) (l₄ : length rd ≡ 60) (l₅ : length levels ≡ n + m) (one : (i : ℕ) → i < 200 → getD ones i 0 ≡ 1) (one′ : (i : ℕ) → i < 60 → getD ones′ i 0 ≡ 1) (all : Everybody (table-graph n m t) od rd) where
+  module _ (ones od ones′ rd levels : List ℕ) (l₁ : length ones ≡ 200) (l₂ : length od ≡ 200) (l₃ : length ones′ ≡ 60) (l₄ : length rd ≡ 60) (l₅ : length levels ≡ n + m) (one : (i : ℕ) → i < 200 → getD ones i 0 ≡ 1) (one′ : (i : ℕ) → i < 60 → getD ones′ i 0 ≡ 1) (all : BothDegrees (table-graph n m t) od rd) where
     abbrev w : Work
     w = work (take (n - 0) ones) (take (n - 0) od) (take (m - 0) ones′) (take (m - 0) rd) levels
 

@@ -36,8 +36,10 @@ pub record Fits (n m : ℕ) (by-operator by-ride : List ℕ) (w : Work) : Type 0
   pub tables : Tables (table-graph n m by-operator) by-operator by-ride
 
 -- on the way from cover (α, β - 1) to cover (α, β): the one lies around the nodes kept and the other inside them, degrees are those
--- inside the nodes kept, and whoever is removed has its level
+-- inside the nodes kept, and whoever is removed has its level; a node is kept by a 1, and removed by a 0
 pub record Raising (g : Graph) (α β : ℕ) (w : Work) : Type 0 where
+  pub operator-bits : (u : ℕ) → u < g .operators → getD (w .operators) u 0 ≤ 1
+  pub ride-bits : (v : ℕ) → v < g .rides → getD (w .rides) v 0 ≤ 1
   pub operator-degrees : (u : ℕ) → u < g .operators → getD (w .operator-degrees) u 0 ≡ count (g .rides) (λ v. g .cleared u v && marked (w .rides) v)
   pub ride-degrees : (v : ℕ) → v < g .rides → getD (w .ride-degrees) v 0 ≡ count (g .operators) (λ u. g .cleared u v && marked (w .operators) u)
   pub holds : Inside g (marked (cover g α β)) (kept-set (g .operators) (w .operators) (w .rides))

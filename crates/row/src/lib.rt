@@ -4,7 +4,7 @@ ghost use Prim.Native.Nat.{_+_, _≤_};
 ghost use lib.ListN.{length};
 ghost use Rattle.model.specs.Graph.{row as levels-row};
 ghost use Rattle.tables.specs.Table.{table-graph};
-ghost use Rattle.degrees.specs.Everybody.{Tabulated};
+ghost use Rattle.degrees.specs.Degrees.{Tabulated};
 ghost use Rattle.row.specs.Row.{work, Fits, Raising, Settled, Rounded, Lower, Least, Start};
 use degrees::Degrees;
 

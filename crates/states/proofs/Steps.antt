@@ -14,7 +14,7 @@ use Rattle.model.proofs.Peel.{marked-cleared, marked-other, degree-lost-ride, d
 use Rattle.states.specs.declared.State.{State}
 use Rattle.tables.specs.Table.{Tables}
 use Rattle.states.specs.Steps.{StateOf, Clears, Cleared, Stepped}
-use Rattle.degrees.proofs.Rows.{row-length, row-at}
+use Rattle.tables.proofs.Held.{row-length, row-at}
 
 -- who falls short, read off the state
 pub state-short : (g : Graph) (limit : ℕ → ℕ) (s : State) → StateOf g s → (x : ℕ) → x < nodes g → short g limit (s .marks) x ≡ (marked (s .marks) x && ltb (getD (s .degrees) x 0) (limit x))

@@ -2,10 +2,31 @@
 use mathlib.Core.Path.{_≡_}
 use mathlib.Core.List.{List, _++_}
 use Prim.Native.Nat.{ℕ, _+_, _-_, _≤_, _<_}
+use lib.Dec.{T}
 use lib.ListN.{length, getD, set, take, drop, replicate}
 use Rattle.states.specs.declared.State.{State}
-use Rattle.model.specs.Graph.{Graph, nodes}
-use Rattle.degrees.specs.Degrees.{MarkedDegrees}
+use Rattle.model.specs.declared.Head.{Head}
+use Rattle.model.specs.Graph.{Graph, nodes, degree, marked}
+use Rattle.degrees.specs.Degrees.{BothDegrees}
+
+-- the degrees of all operators and rides inside the marks
+abbrev pub MarkedDegrees : Graph → List ℕ → List ℕ → Type 0
+MarkedDegrees g marks degrees = (x : ℕ) → x < nodes g → getD degrees x 0 ≡ degree g (marked marks) x
+
+-- the degrees of the operators, and behind them those of the rides
+pub record Joined (of-operators of-rides all : List ℕ) : Type 0 where
+  pub operators : (u : ℕ) → u < length of-operators → getD all u 0 ≡ getD of-operators u 0
+  pub rides : (v : ℕ) → v < length of-rides → getD all (length of-operators + v) 0 ≡ getD of-rides v 0
+
+-- what a peel of g starts from: its sizes, the degrees in its pairs, and marks for all its nodes; the nodes of each of its pairs are marked
+pub record Ready (g : Graph) (h : Head) (operator-degrees ride-degrees marks : List ℕ) : Type 0 where
+  pub operators : h .operators ≡ g .operators
+  pub rides : h .rides ≡ g .rides
+  pub few-operators : h .operators ≤ 200
+  pub few-rides : h .rides ≤ 60
+  pub degrees : BothDegrees g operator-degrees ride-degrees
+  pub room : nodes g ≤ length marks
+  pub within : (u v : ℕ) → u < g .operators → v < g .rides → T (g .cleared u v) → T (marked marks u) × T (marked marks (g .operators + v))
 
 -- a state of a peel of g: its sizes, and the remaining degrees that travel with the marks
 pub record StateOf (g : Graph) (s : State) : Type 0 where

@@ -1,14 +1,16 @@
 // The state of a peel travels by value, and each step hands on the next one. A step costs one row of a table.
-ghost use Prim.Native.Nat.{_+_, _<_};
+ghost use Prim.Native.Nat.{_+_, _<_, _≤_};
 ghost use lib.Dec.{T};
+ghost use lib.ListN.{length};
 ghost use Rattle.model.specs.Graph.{Graph, marked};
 ghost use Rattle.tables.specs.Table.{Tables};
-ghost use Rattle.degrees.specs.Degrees.{Ready};
-ghost use Rattle.states.specs.Steps.{StateOf, Started, Clears, Cleared, Stepped};
+ghost use Rattle.states.specs.Steps.{StateOf, Joined, Ready, Started, Clears, Cleared, Stepped};
+use degrees::Degrees;
 use model::Head;
 use tables::subtract;
 
-// The state of a peel: the remaining degree of every node, marked or not (operators first, then rides), the marks, the sizes, and the steps taken.
+// The state of a peel: the remaining degree of every node (operators first, then rides; 0 where it wasn't marked at the start), the marks, the sizes, and
+// the steps taken.
 pub struct State {
     pub degrees: [u8; 260],
     pub marks: [u16; 260],
@@ -17,24 +19,36 @@ pub struct State {
     pub steps: u16,
 }
 
+// Puts the degrees of the operators into an array, and those of the rides behind them.
+fn join(of_operators: &[u8], of_rides: &[u8], all: &mut [u8])
+    requires { ⌜ length (now «of_operators») + length (now «of_rides») ≤ length (now all) ⌝ }
+    ensures { λ _. ⌜ Joined (now («of_operators» .entry)) (now («of_rides» .entry)) (now (all .exit)) ⌝ }
+{
+    let n = of_operators.len();
+    let m = of_rides.len();
+    let end = n + m;
+    words::copy_bytes(of_operators, all, n);
+    words::copy_bytes(of_rides, &mut all[n..end], m);
+}
+
 impl State {
-    // The first state, from marks that came in.
-    pub fn start(head: Head, rows: &[u8], columns: &[u8], marks: &[u16]) -> State
-        requires { ⌜ ((g : Graph) × Ready g (head .operators) (head .rides) (now rows) (now columns) (now marks)) ⌝ }
+    // The first state, from marks that came in and the degrees in the pairs of marked nodes.
+    pub fn start(head: Head, degrees: Degrees, marks: &[u16]) -> State
+        requires { ⌜ ((g : Graph) × Ready g head (degrees .operators) (degrees .rides) (now marks)) ⌝ }
         ensures { λ r. ⌜
-            ((g : Graph) →
-            Ready g (head .operators) (head .rides) (now (rows .entry)) (now (columns .entry)) (now (marks .entry)) →
-            Started g (now (marks .entry)) r)
+            ((g : Graph) → Ready g head (degrees .operators) (degrees .rides) (now (marks .entry)) → Started g (now (marks .entry)) r)
             ⌝ }
     {
         let operators = head.operators as usize;
         let rides = head.rides as usize;
         let mut kept = [0u16; 260];
         words::copy(marks, &mut kept, operators + rides);
-        let mut degrees = [0u8; 260];
-        degrees::fill(operators, rides, rows, columns, &kept, &mut degrees);
+        let of_operators = degrees.operators;
+        let of_rides = degrees.rides;
+        let mut all = [0u8; 260];
+        join(&of_operators[0..operators], &of_rides[0..rides], &mut all);
         State {
-            degrees: degrees,
+            degrees: all,
             marks: kept,
             operators: head.operators,
             rides: head.rides,

@@ -1,19 +1,19 @@
 -- The laws of a sweep: one node visited, and the nodes below i. Assumes nothing.
-use mathlib.Core.Path.{_≡_, refl, sym, ap, _∙_, subst}
+use mathlib.Core.Path.{_≡_, refl, sym, ap, ap₂, _∙_, subst}
 use mathlib.Core.Logic.{_≢_}
 use mathlib.Core.Bool.{Bool, true, false, _&&_}
 use mathlib.Core.List.{List}
 use Prim.Native.Nat.{ℕ, _+_, _-_, _*_, _≤_, _<_}
 use native.Mathlib.Omega.{arith}
-use native.Mathlib.Decide.{decLt}
-use lib.Dec.{T, ltb, leb, eqb, ltb→lt, lt→ltb, leb→le, le→leb}
+use native.Mathlib.Decide.{ℕ-discrete, decLt}
+use lib.Bits.{bitAnd}
+use lib.Dec.{T, ltb, leb, eqb, ltb→lt, lt→ltb, leb→le, le→leb, eqb→eq}
 use borrow.Author.Count.{below-more}
-use borrow.Author.Tests.{lt-ltb, eq-eqb, ne-eqb}
 use lib.ListN.{length, getD, set}
 use lib.Seq.{getD-set-same, getD-set-other}
 use Rattle.model.specs.Count.{bit, count}
 use Rattle.model.specs.Graph.{marked}
-use Rattle.model.proofs.Count.{by-test, test-true, test-false, test-ext, and-left, and-right, and-both, count-mono, count-but-one, count-less, count-more, count-pos}
+use Rattle.model.proofs.Count.{bit-of, bits-and, by-test, test-true, test-false, test-ext, and-left, and-right, and-both, count-mono, count-but-one, count-less, count-more, count-pos}
 use Rattle.model.proofs.Peel.{marked-cleared, marked-other, marked-less, marked-stays}
 use Rattle.tables.specs.Table.{joined}
 use Rattle.sweeps.specs.Sweep.{falls, Side, Visited, Swept}
@@ -21,14 +21,20 @@ use Rattle.sweeps.specs.Sweep.{falls, Side, Visited, Swept}
 -- ---- one node
 
 module _ (kept degrees : List ℕ) (limit i : ℕ) where
-  pub removed-before : getD kept i 0 ≢ 1 → falls kept degrees limit i ≡ false
-  removed-before n = rw (ne-eqb (getD kept i 0) 1 n)
+  -- the bit that is tested is whether the node falls short
+  module _ (h : getD kept i 0 ≤ 1) (s : ℕ) (e : s ≡ bit (ltb (getD degrees i 0) limit)) where
+    falls-bit : bitAnd (getD kept i 0) s ≡ bit (falls kept degrees limit i)
+    falls-bit = ap₂ bitAnd (bit-of (getD kept i 0) h) e ∙ bits-and (marked kept i) (ltb (getD degrees i 0) limit)
 
-  pub degree-enough : limit ≤ getD degrees i 0 → falls kept degrees limit i ≡ false
-  degree-enough l = test-false (falls kept degrees limit i) (λ t. let z : ⊥ = omega (arith, ltb→lt (getD degrees i 0) limit (and-right (marked kept i) (ltb (getD degrees i 0) limit) t)) in z)
+    pub falls-not : bitAnd (getD kept i 0) s ≡ 0 → falls kept degrees limit i ≡ false
+    falls-not z = test-false (falls kept degrees limit i) (λ t. let y : ⊥ = omega (arith, z, falls-bit, ap bit (test-true (falls kept degrees limit i) t)) in y)
 
-  pub falls-true : getD kept i 0 ≡ 1 → getD degrees i 0 < limit → falls kept degrees limit i ≡ true
-  falls-true e l = rw (eq-eqb (getD kept i 0) 1 e, lt-ltb (getD degrees i 0) limit l)
+    pub falls-true : bitAnd (getD kept i 0) s ≢ 0 → falls kept degrees limit i ≡ true
+    falls-true n = by-test (falls kept degrees limit i) (test-true (falls kept degrees limit i)) (λ f. absurd (n (falls-bit ∙ ap bit (test-false (falls kept degrees limit i) f))))
+
+  -- whoever falls short is kept
+  pub falls-kept : falls kept degrees limit i ≡ true → getD kept i 0 ≡ 1
+  falls-kept e = eqb→eq (getD kept i 0) 1 (and-left (marked kept i) (ltb (getD degrees i 0) limit) (subst T (sym e) tt))
 
 module _ (t : List ℕ) (w : ℕ) (kept degrees levels others : List ℕ) (limit level i : ℕ) where
   pub visited-kept : falls kept degrees limit i ≡ false → Visited t w kept degrees levels others limit level i 0 kept levels others
@@ -99,6 +105,11 @@ module _ (t : List ℕ) (w : ℕ) (kept₀ degrees levels₀ kept levels others 
               (λ y b. ap (λ (z : List ℕ). marked z y) k ∙ marked-other kept i y (omega arith) ∙ swept .kept-is y b)
               (ap (λ (z : List ℕ). marked z i) k ∙ test-false (marked (set kept i 0) i) (marked-cleared kept i) ∙ sym (test-false (marked kept₀ i && leb limit (getD degrees i 0)) (λ t. let z : ⊥ = omega (arith, leb→le limit (getD degrees i 0) (and-right (marked kept₀ i) (leb limit (getD degrees i 0)) t)) in z)));
           kept-rest = λ y b. ap (λ (z : List ℕ). getD z y 0) k ∙ getD-set-other kept i y 0 0 (omega arith) ∙ swept .kept-rest y (omega arith);
+          bits = λ y b.
+              elim (ℕ-discrete y i) [
+                | yes q ↦ omega (arith, ap (λ (z : List ℕ). getD z y 0) k, ap (λ (z : ℕ). getD (set kept i 0) z 0) q, getD-set-same kept i 0 0 (omega arith))
+                | no n ↦ omega (arith, ap (λ (z : List ℕ). getD z y 0) k, getD-set-other kept i y 0 0 n, swept .bits y b)
+              ];
           levels-is =
               below-more _ i
               (λ y b. ap (λ (z : List ℕ). getD z y 0) l ∙ getD-set-other levels i y level 0 (omega arith) ∙ swept .levels-is y b)
@@ -127,6 +138,7 @@ module _ (t : List ℕ) (w : ℕ) (kept₀ degrees levels₀ kept levels others 
               (λ y b. ap (λ (z : List ℕ). marked z y) k ∙ swept .kept-is y b)
               (ap (λ (z : List ℕ). marked z i) k ∙ same-kept ∙ kept-enough);
           kept-rest = λ y b. ap (λ (z : List ℕ). getD z y 0) k ∙ swept .kept-rest y (omega arith);
+          bits = λ y b. omega (arith, ap (λ (z : List ℕ). getD z y 0) k, swept .bits y b);
           levels-is =
               below-more _ i
               (λ y b. ap (λ (z : List ℕ). getD z y 0) l ∙ swept .levels-is y b)
@@ -166,6 +178,7 @@ module _ (t : List ℕ) (w : ℕ) (kept₀ degrees levels₀ others₀ kept leve
         };
         degrees-long = omega (arith, side .degrees-long);
         levels-long = omega (arith, side .levels-long);
+        bits = λ x h. swept .bits x (omega arith);
         counted = λ j h. swept .others-is j h ∙ ap (λ (n : ℕ). count n (λ (y : ℕ). joined t w y j && marked kept y)) (sym k);
       }
 
@@ -176,6 +189,7 @@ swept-none t w kept degrees levels others limit level side =
       removed = refl;
       kept-is = λ y b. absurd (let z : ⊥ = omega arith in z);
       kept-rest = λ y b. refl;
+      bits = side .bits;
       levels-is = λ y b. absurd (let z : ⊥ = omega arith in z);
       levels-rest = λ y b. refl;
       others-is = side .counted;

@@ -5,7 +5,7 @@ use mathlib.Core.List.{List}
 use Prim.Native.Nat.{ℕ, _+_, _*_, _/_, _%_, _≤_, _<_}
 use native.Mathlib.Omega.{arith}
 use native.Mathlib.Decide.{ℕ-discrete, decLt}
-use native.Mathlib.Nat.{lt-of-lt-of-le, suc-mul, mul-le-mul-right}
+use native.Mathlib.Nat.{le-refl, lt-of-lt-of-le, suc-mul, mul-le-mul-right}
 use lib.Arith.{digits-lt, digits-div, digits-mod}
 use lib.Dec.{T, eqb, eqb→eq, eqb-refl}
 use lib.ListN.{length, getD, set}
@@ -45,29 +45,29 @@ module _ (rows columns : List ℕ) (k i j : ℕ) where
       (λ t. let w = some-witness (pair-at rows columns i j) k t in some-holds (pair-at rows columns i j) (k + 1) (w .0) (omega (arith, w .1)) (w .2))
 
 -- a table of the first k pairs, with a value for a listed pair and one for another: with the next pair's value stored it is the table of the first k + 1
-module _ (val : ℕ → ℕ → Bool → ℕ) (rows columns : List ℕ) (height width k : ℕ) (table : List ℕ) (size : height * width ≤ length table) (r : getD rows k 0 < height) (c : getD columns k 0 < width) (upto : (i j : ℕ) → i < height → j < width → getD table (i * width + j) 0 ≡ val i j (listed k rows columns i j)) where
+module _ (val : ℕ → ℕ → Bool → ℕ) (rows columns : List ℕ) (a b w k : ℕ) (table : List ℕ) (wide : b ≤ w) (size : a * w ≤ length table) (r : getD rows k 0 < a) (c : getD columns k 0 < b) (upto : (i j : ℕ) → i < a → j < b → getD table (i * w + j) 0 ≡ val i j (listed k rows columns i j)) where
   abbrev u : ℕ
   u = getD rows k 0
 
   abbrev v : ℕ
   v = getD columns k 0
 
-  pub table-stored : (i j : ℕ) → i < height → j < width → getD (set table (u * width + v) (val u v true)) (i * width + j) 0 ≡ val i j (listed (k + 1) rows columns i j)
+  pub table-stored : (i j : ℕ) → i < a → j < b → getD (set table (u * w + v) (val u v true)) (i * w + j) 0 ≡ val i j (listed (k + 1) rows columns i j)
   table-stored i j h l =
-      elim (ℕ-discrete (i * width + j) (u * width + v)) [
+      elim (ℕ-discrete (i * w + j) (u * w + v)) [
         | yes e ↦
-            (let p : u ≡ i = sym (place-row width i j u v l c e) in
-            let q : v ≡ j = sym (place-column width i j u v l c e) in
-            rw (e, getD-set-same table (u * width + v) (val u v true) 0 (place-lt height width u v r c (length table) size))
-            (ap₂ (λ (a b : ℕ). val a b true) p q ∙ sym (ap (val i j) (listed-here rows columns k i j p q))))
+            (let p : u ≡ i = sym (place-row w i j u v (omega arith) (omega arith) e) in
+            let q : v ≡ j = sym (place-column w i j u v (omega arith) (omega arith) e) in
+            rw (e, getD-set-same table (u * w + v) (val u v true) 0 (place-lt a w u v r (omega arith) (length table) size))
+            (ap₂ (λ (x y : ℕ). val x y true) p q ∙ sym (ap (val i j) (listed-here rows columns k i j p q))))
         | no n ↦
-            getD-set-other table (u * width + v) (i * width + j) (val u v true) 0 n ∙ upto i j h l ∙
-            sym (ap (val i j) (listed-before rows columns k i j (λ e f. n (sym (ap₂ (λ (a b : ℕ). a * width + b) e f)))))
+            getD-set-other table (u * w + v) (i * w + j) (val u v true) 0 n ∙ upto i j h l ∙
+            sym (ap (val i j) (listed-before rows columns k i j (λ e f. n (sym (ap₂ (λ (x y : ℕ). x * w + y) e f)))))
       ]
 
--- the same with one value for all listed pairs
+-- the same with one value for all listed pairs, in rows as long as they are wide
 pub table-more : (val : Bool → ℕ) (rows columns : List ℕ) (height width k : ℕ) (table : List ℕ) → height * width ≤ length table → getD rows k 0 < height → getD columns k 0 < width → ((i j : ℕ) → i < height → j < width → getD table (i * width + j) 0 ≡ val (listed k rows columns i j)) → (i j : ℕ) → i < height → j < width → getD (set table (getD rows k 0 * width + getD columns k 0) (val true)) (i * width + j) 0 ≡ val (listed (k + 1) rows columns i j)
-table-more val = table-stored (λ i j. val)
+table-more val rows columns height width k table = table-stored (λ i j. val) rows columns height width width k table (le-refl width)
 
 -- with no pairs nothing is listed
 pub listed-none : (rows columns : List ℕ) (i j : ℕ) → listed 0 rows columns i j ≡ false

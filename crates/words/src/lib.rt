@@ -1,4 +1,5 @@
-// Arrays of 16-bit words and of 32-bit stamps: one value stored from one place up to another; words and stamps copied, and words stored and compared with the old ones.
+// Arrays of 16-bit words, of 32-bit stamps and of bytes: one value stored from one place up to another; words, stamps and bytes copied, and words stored and compared with
+// the old ones.
 ghost use mathlib.Core.Path.{_≡_};
 ghost use mathlib.Core.Bool.{not};
 ghost use mathlib.Core.List.{_++_};
@@ -53,6 +54,18 @@ pub fn copy_stamps(stamps: &[u32], to: &mut [u32], n: usize)
     let mut i = 0;
     while i < n {
         to[i] = stamps[i];
+        i += 1;
+    }
+}
+
+// Copies the first n bytes.
+pub fn copy_bytes(bytes: &[u8], to: &mut [u8], n: usize)
+    requires { ⌜ (n ≤ length (now bytes)) × (n ≤ length (now to)) ⌝ }
+    ensures { λ _. ⌜ now (to .exit) ≡ take n (now (bytes .entry)) ++ drop n (now (to .entry)) ⌝ }
+{
+    let mut i = 0;
+    while i < n {
+        to[i] = bytes[i];
         i += 1;
     }
 }

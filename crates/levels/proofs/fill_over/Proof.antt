@@ -5,7 +5,8 @@ use mathlib.Core.Path.{ap, _∙_}
 use Prim.Native.Nat.{ℕ, _+_}
 use native.Mathlib.Omega.{arith}
 use Rattle.model.specs.Layout.{over, index-places, differing}
-use Rattle.degrees.proofs.Added.{first-length}
+use Rattle.model.proofs.Store.{first-length}
+use Rattle.degrees.proofs.Reading.{tabulated}
 use Rattle.levels.proofs.Index.{held-index}
 use Rattle.levels.proofs.fill_over.Statement.{statement}
 use Rattle.levels.proofs.fill_over.Tie as tie
@@ -19,11 +20,17 @@ cast-m c = search needs
 add-w : tie.Need-add-w
 add-w c = search needs
 
+present-requires : tie.Need-present-requires
+present-requires c κs = search needs
+
+slice-aggregate-tabulate : tie.Need-slice-aggregate-tabulate
+slice-aggregate-tabulate c = search needs
+
 tabulate-requires : tie.Need-tabulate-requires
 tabulate-requires c κs = search needs
 
 largest-of-requires : tie.Need-largest-of-requires
-largest-of-requires c κs = search needs
+largest-of-requires c κs = omega (arith, c .before .before .before .before .tabulate .ensures _ (c .before .before .before .before .before .before .before .before .present .ensures) .degrees .operators-long, c .before .before .before .before .before .before .before .before .before .before .before .before .before .before .before .before .before .before .pre .0 .few-operators)
 
 sub-fill-rows : tie.Need-sub-fill-rows
 sub-fill-rows c = search needs
@@ -35,10 +42,11 @@ part-fill-rows-end : tie.Need-part-fill-rows-end
 part-fill-rows-end c = search needs
 
 fill-rows-requires : tie.Need-fill-rows-requires
-fill-rows-requires c κs = let s = c .before .before .before .before .before .before .before .before .before .before .before .before .before .before .before .before .before .before .before .before .before in
+fill-rows-requires c κs = let s = c .before .before .before .before .before .before .before .before .before .before .before .before .before .before .before .before .before .before .before .before .before .before .before in
     let a = s .args in
     let p = s .pre in
-    ((c .before .before .before .before .before .before .before .before .before .tabulate .ensures .1, first-length (a .row .now) (a .head .operators + a .head .rides) (omega (arith, p .3, p .0 .few-operators, p .0 .few-rides)), p .4), c .before .before .before .before .largest-of .ensures)
+    let read = c .before .before .before .before .before .before .before .before .before .tabulate .ensures _ (c .before .before .before .before .before .before .before .before .before .before .before .before .before .present .ensures) in
+    ((tabulated _ _ _ _ _ (read .tables) (read .degrees), first-length (a .row .now) (a .head .operators + a .head .rides) (omega (arith, p .3, p .0 .few-operators, p .0 .few-rides)), p .4), c .before .before .before .before .largest-of .ensures)
 
 same-length : tie.Need-same-length
 same-length c = search needs
@@ -53,9 +61,9 @@ same-length-4 : tie.Need-same-length-4
 same-length-4 c = search needs
 
 returns : tie.Need-returns
-returns c = let a = c .before .before .before .before .before .before .before .before .before .before .before .before .before .before .before .before .before .before .before .before .before .before .before .before .before .before .args in
+returns c = let a = c .before .before .before .before .before .before .before .before .before .before .before .before .before .before .before .before .before .before .before .before .before .before .before .before .before .before .before .before .args in
     let v = c .before .before .before .before .fill-rows .ensures in
-    let e = held-index _ _ _ (c .before .before .before .before .before .before .before .before .before .before .before .before .before .before .tabulate .ensures .0) in
+    let e = held-index _ _ _ (c .before .before .before .before .before .before .before .before .before .before .before .before .before .before .tabulate .ensures _ (c .before .before .before .before .before .before .before .before .before .before .before .before .before .before .before .before .before .before .present .ensures) .tables) in
     (v .0 ∙ ap (λ (z : List ℕ). over z (a .index .now)) e, v .1 ∙ ap (λ (z : List ℕ). differing (index-places (a .head)) (a .index .now) z) e)
 
 pub fill-over-spec : {M : Type 1} → statement M
@@ -65,6 +73,8 @@ fill-over-spec =
     cast-n
     cast-m
     add-w
+    present-requires
+    slice-aggregate-tabulate
     tabulate-requires
     largest-of-requires
     sub-fill-rows

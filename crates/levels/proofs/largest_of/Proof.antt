@@ -3,7 +3,7 @@ use borrow.Author.Needs.{needs}
 use Prim.Native.Nat.{ℕ, _≤_}
 use mathlib.Core.Path.{subst}
 use native.Mathlib.Omega.{arith}
-use Rattle.degrees.proofs.Added.{first-length, first-at}
+use Rattle.model.proofs.Store.{first-length, first-at}
 use Rattle.levels.proofs.largest_of.Statement.{statement}
 use Rattle.levels.proofs.largest_of.Tie as tie
 

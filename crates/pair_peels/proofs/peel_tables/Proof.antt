@@ -24,7 +24,7 @@ run-requires c κs =
     let s = c .before .before .before .before .before .before .before .before in
     let p = s .pre .0 in
     let z = c .start .ensures (p .0) (p .1) in
-    ((p .0, p .1 .tables, z .state), (z .steps, omega (arith, z .state .operators, z .state .rides, p .1 .operators, p .1 .rides, s .pre .1)))
+    ((p .0, p .2, z .state), (z .steps, omega (arith, z .state .operators, z .state .rides, p .1 .operators, p .1 .rides, s .pre .1)))
 
 slice-aggregate-copy : tie.Need-slice-aggregate-copy
 slice-aggregate-copy c = search needs
@@ -39,7 +39,7 @@ add-copy c = search needs
 copy-requires : tie.Need-copy-requires
 copy-requires c κs =
     let o = c .before .before .before .before .before .before .before .before .before .before .before .before .pre .0 .1 in (
-      omega (arith, long (c .before .before .before), o .operators, o .rides, o .tables .by-ride .wide, o .tables .by-operator .wide),
+      omega (arith, long (c .before .before .before), o .few-operators, o .few-rides),
       omega (arith, o .operators, o .rides, o .room),
     )
 
@@ -49,18 +49,18 @@ is-settled-requires c κs =
     let s = r .before .before .before .before .before .before .before .before .before in
     let p = s .pre .0 in
     let o = p .1 in
-    let w = r .run .ensures (p .0) (o .tables) (r .before .start .ensures (p .0) o .state) .state in
-    (omega (arith, w .operators, w .rides, o .tables .by-ride .wide, o .tables .by-operator .wide), omega (arith, w .operators, w .rides, o .operators, o .rides, s .pre .1))
+    let w = r .run .ensures (p .0) (p .2) (r .before .start .ensures (p .0) o .state) .state in
+    (omega (arith, w .operators, w .rides, o .operators, o .rides, o .few-operators, o .few-rides), omega (arith, w .operators, w .rides, o .operators, o .rides, s .pre .1))
 
 same-length : tie.Need-same-length
 same-length c = search needs
 
 returns : tie.Need-returns
-returns c = λ g o.
+returns c = λ g o tables.
     let r = c .before .before .before .before .before .before .before in
     let a = r .before .before .before .before .before .before .before .before .before .args in
     let z = r .before .start .ensures g o in
-    let w = r .run .ensures g (o .tables) (z .state) in
+    let w = r .run .ensures g tables (z .state) in
     let e : a .head .operators + a .head .rides ≡ nodes g = omega (arith, o .operators, o .rides) in
     peel-gives g _ _ _ (o .room) _ _ z w _ _
     (c .is-settled .ensures g (w .state))

@@ -1,56 +1,55 @@
--- `pairs::ascending` meets its contract. The loop's invariant: none of the first i pairs is misplaced. Assumes nothing.
+-- `pairs::ascending` meets its contract. Assumes nothing.
 use borrow.Author.Needs.{needs}
-use borrow.Author.Count.{below-more}
-use mathlib.Core.Path.{_≡_, refl, sym, _∙_}
-use mathlib.Core.Bool.{false}
-use Prim.Native.Nat.{ℕ, _≤_, _<_, _-_}
+use mathlib.Core.Path.{_∙_}
 use native.Mathlib.Omega.{arith}
-use Rattle.model.specs.Refusal.{misplaced}
-use Rattle.pairs.proofs.Order.{one-misplaced, none-misplaced}
+use borrow.Author.Tests.{le-leb, lt-leb}
+use lib.ListN.{getD}
+use Rattle.model.specs.Count.{some, count}
+use Rattle.model.specs.Refusal.{refused-5}
+use Rattle.pairs.proofs.Order.{first-place, first-misplaced, none-misplaced}
 use Rattle.pairs.proofs.ascending.Statement.{statement}
 use Rattle.pairs.proofs.ascending.Tie as tie
 
-abbrev Inv-loop : tie.InvT-loop
-Inv-loop head operators rides pairs i₀ i = (pairs ≡ head .pairs) × (i ≤ pairs) × ((k : ℕ) → k < i → misplaced head operators rides k ≡ false)
+returns : tie.Need-returns
+unfolding refused-5 some count
+returns c = rw (c .if1 .taken)
 
-abbrev μ-loop : tie.MeasureT-loop
-μ-loop head operators rides pairs i₀ i = pairs - i
+shared-slice-read-if2 : tie.Need-shared-slice-read-if2
+shared-slice-read-if2 c = search needs
 
-cast-pairs : tie.Need-cast-pairs Inv-loop μ-loop
-cast-pairs c = search needs
+returns-2 : tie.Need-returns-2
+returns-2 c = let a = c .before .before .before .before .before .before .before .args in
+    first-misplaced (a .head) (a .operators .now) (a .rides .now) (omega arith) (rw (le-leb (a .head .operators) (getD (a .operators .now) 0 0) (omega arith)))
 
-loop-holds : tie.Need-loop-holds Inv-loop μ-loop
-loop-holds c = (refl, omega arith, λ k l. absurd (let z : ⊥ = omega arith in z))
+shared-slice-read-if3 : tie.Need-shared-slice-read-if3
+shared-slice-read-if3 c = search needs
 
-misplaced-requires : tie.Need-misplaced-requires Inv-loop μ-loop
-misplaced-requires c κs = search needs
+returns-3 : tie.Need-returns-3
+returns-3 c = let a = c .before .before .before .before .before .before .before .before .before .before .args in
+    first-misplaced (a .head) (a .operators .now) (a .rides .now) (omega arith)
+    (rw (lt-leb (a .head .operators) (getD (a .operators .now) 0 0) (omega arith), le-leb (a .head .rides) (getD (a .rides .now) 0 0) (omega arith)))
 
-returns : tie.Need-returns Inv-loop μ-loop
-returns c = one-misplaced _ _ _ (c .before .before .before .loop .i) (omega arith) (sym (c .before .misplaced .ensures) ∙ c .if1 .taken)
+count-misplaced-requires : tie.Need-count-misplaced-requires
+count-misplaced-requires c κs = let a = c .before .before .before .before .before .before .before .before .before .before .args in (
+  omega arith,
+  omega arith,
+  omega arith,
+  first-place (a .head) (a .operators .now) (a .rides .now) ∙
+      rw (lt-leb (a .head .operators) (getD (a .operators .now) 0 0) (omega arith), lt-leb (a .head .rides) (getD (a .rides .now) 0 0) (omega arith)),
+)
 
-add-i : tie.Need-add-i Inv-loop μ-loop
-add-i c = search needs
-
-loop-less : tie.Need-loop-less Inv-loop μ-loop
-loop-less c = search needs
-
-loop-again : tie.Need-loop-again Inv-loop μ-loop
-loop-again c = (refl, omega arith, below-more _ _ (c .before .before .before .loop .inv .2) (sym (c .before .misplaced .ensures) ∙ c .if1 .left))
-
-returns-2 : tie.Need-returns-2 Inv-loop μ-loop
-returns-2 c = none-misplaced _ _ _ (λ k l. c .before .loop .inv .2 k (omega arith))
+returns-4 : tie.Need-returns-4
+returns-4 c = let a = c .before .before .before .before .before .before .before .before .before .before .before .args in
+    rw (c .count-misplaced .ensures) (none-misplaced (a .head) (a .operators .now) (a .rides .now))
 
 pub ascending-spec : {M : Type 1} → statement M
 ascending-spec =
     tie.close
     (tie.spec
-    Inv-loop
-    μ-loop
-    cast-pairs
-    loop-holds
-    misplaced-requires
     returns
-    add-i
-    loop-less
-    loop-again
-    returns-2)
+    shared-slice-read-if2
+    returns-2
+    shared-slice-read-if3
+    returns-3
+    count-misplaced-requires
+    returns-4)

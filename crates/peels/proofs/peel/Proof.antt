@@ -30,7 +30,7 @@ peel-over-requires c κs = let a = c .before .before .before .before .before .be
     let q = c .before .before .before .before .before .peel-number in
     let none = sym (q .ensures) ∙ (let z : q .result ≡ 0 = omega arith in z) in
     let k = peel-accepted (a .head) (a .operators .now) (a .rides .now) (a .presence .now) (a .marks .now) none in
-    ((k .0, k .1, zero-tables, omega (arith, k .0 .few-operators, k .0 .few-rides), k .2), k .3)
+    (k .0, k .1, zero-tables, omega (arith, k .0 .few-operators, k .0 .few-rides), k .2)
 
 same-length-2 : tie.Need-same-length-2
 same-length-2 c = search needs

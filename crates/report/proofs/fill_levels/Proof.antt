@@ -4,7 +4,8 @@ use mathlib.Core.Path.{_∙_}
 use native.Mathlib.Omega.{arith}
 use Rattle.model.specs.Layout.{graph}
 use Rattle.tables.proofs.Held.{zero-tables}
-use Rattle.report.proofs.Filled.{held-row}
+use Rattle.degrees.proofs.Reading.{tabulated}
+use Rattle.report.proofs.Filled.{everybody-here, held-row}
 use Rattle.report.proofs.Report.{row-above}
 use Rattle.report.proofs.fill_levels.Statement.{statement}
 use Rattle.report.proofs.fill_levels.Tie as tie
@@ -25,7 +26,7 @@ slice-aggregate-tabulate-3 : tie.Need-slice-aggregate-tabulate-3
 slice-aggregate-tabulate-3 c = search needs
 
 tabulate-requires : tie.Need-tabulate-requires
-tabulate-requires c κs = let p = c .before .before .before .before .before .before .before .before .before .before .pre .0 .0 in (p, omega (arith, p .few-operators, p .few-rides), zero-tables)
+tabulate-requires c κs = let p = c .before .before .before .before .before .before .before .before .before .before .pre .0 .0 in (p, (_, everybody-here _ (omega (arith, p .few-operators, p .few-rides))), zero-tables)
 
 slice-aggregate-fill-row : tie.Need-slice-aggregate-fill-row
 slice-aggregate-fill-row c = search needs
@@ -37,7 +38,10 @@ cast-fill-row : tie.Need-cast-fill-row
 cast-fill-row c = search needs
 
 fill-row-requires : tie.Need-fill-row-requires
-fill-row-requires c κs = search needs
+fill-row-requires c κs = let start = c .before .before .before .before .before .before .before .before .before .before .before .before .before .before .before .before in
+    let p = start .pre .0 in
+    let read = c .before .before .before .before .before .tabulate .ensures _ (everybody-here _ (omega (arith, p .0 .few-operators, p .0 .few-rides))) in
+    (tabulated _ _ _ _ _ (read .tables) (read .degrees), p .1, p .2)
 
 same-length : tie.Need-same-length
 same-length c = search needs
@@ -48,7 +52,7 @@ returns c =
     let tables = row .before .before .before .before .before .before in
     let start = tables .before .before .before .before .before .before .before .before .before .before .before in
     let p = start .pre .0 .0 in
-    row .fill-row .ensures ∙ held-row (graph (start .args .h) (start .args .operators .now) (start .args .rides .now)) (omega (arith, p .few-operators, p .few-rides)) _ _ (tables .tabulate .ensures .0) (start .args .alpha)
+    row .fill-row .ensures ∙ held-row (graph (start .args .h) (start .args .operators .now) (start .args .rides .now)) _ _ (tables .tabulate .ensures _ (everybody-here _ (omega (arith, p .few-operators, p .few-rides))) .tables) (start .args .alpha)
 
 returns-2 : tie.Need-returns-2
 returns-2 c =

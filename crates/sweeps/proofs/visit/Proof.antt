@@ -6,25 +6,24 @@ use native.Mathlib.Omega.{arith}
 use lib.ListN.{length, getD}
 use Rattle.model.proofs.Store.{part-length, part-at}
 use Rattle.tables.proofs.Place.{row-inside}
-use Rattle.sweeps.proofs.Side.{removed-before, degree-enough, falls-true, visited-kept, visited-removed, row-counted}
+use Rattle.sweeps.proofs.Side.{falls-not, falls-true, falls-kept, visited-kept, visited-removed, row-counted}
 use Rattle.sweeps.proofs.visit.Statement.{statement}
 use Rattle.sweeps.proofs.visit.Tie as tie
 
 slice-read-if1 : tie.Need-slice-read-if1
 slice-read-if1 c = search needs
 
+shared-slice-read-below : tie.Need-shared-slice-read-below
+shared-slice-read-below c = search needs
+
+below-requires : tie.Need-below-requires
+below-requires c κs = search needs
+
 returns : tie.Need-returns
 returns c =
-    let a = c .before .before .before .before .before .before .before .args in
-    visited-kept _ _ _ _ _ _ _ _ _ (removed-before (a .kept .now) (a .degrees .now) (a .limit) (a .i) (c .if1 .taken))
-
-shared-slice-read-if2 : tie.Need-shared-slice-read-if2
-shared-slice-read-if2 c = search needs
-
-returns-2 : tie.Need-returns-2
-returns-2 c =
-    let a = c .before .before .before .before .before .before .before .before .before .args in
-    visited-kept _ _ _ _ _ _ _ _ _ (degree-enough (a .kept .now) (a .degrees .now) (a .limit) (a .i) (c .if2 .taken))
+    let s = c .before .before .before .before .before .before .before .before .before in
+    let a = s .args in
+    visited-kept _ _ _ _ _ _ _ _ _ (falls-not (a .kept .now) (a .degrees .now) (a .limit) (a .i) (s .pre .0 .bits (a .i) (s .pre .1)) _ (c .before .below .ensures) (c .if1 .taken))
 
 slice-write-kept : tie.Need-slice-write-kept
 slice-write-kept c = search needs
@@ -65,7 +64,7 @@ subtract-requires c κs =
     let a = s .args in
     let inside = row-inside (length (a .kept .now)) (a .width) (a .i) (length (a .others .now)) (s .pre .1) (s .pre .0 .table .wide) (length (a .table .now)) (s .pre .0 .table .size) in
     let l = part-length (a .table .now) (a .i * a .width) (length (a .others .now)) inside in
-    (omega (arith, l), λ j h. subst (λ (z : ℕ). z ≤ getD (a .others .now) j 0) (sym (part-at (a .table .now) (a .i * a .width) (length (a .others .now)) inside j 0 h)) (row-counted (a .table .now) (a .width) (a .kept .now) (a .degrees .now) (a .levels .now) (a .others .now) (s .pre .0) (a .i) (s .pre .1) j h (omega arith)))
+    (omega (arith, l), λ j h. subst (λ (z : ℕ). z ≤ getD (a .others .now) j 0) (sym (part-at (a .table .now) (a .i * a .width) (length (a .others .now)) inside j 0 h)) (row-counted (a .table .now) (a .width) (a .kept .now) (a .degrees .now) (a .levels .now) (a .others .now) (s .pre .0) (a .i) (s .pre .1) j h (falls-kept (a .kept .now) (a .degrees .now) (a .limit) (a .i) (falls-true (a .kept .now) (a .degrees .now) (a .limit) (a .i) (s .pre .0 .bits (a .i) (s .pre .1)) _ (c .before .before .before .below .ensures) (c .before .before .if1 .left)))))
 
 same-length : tie.Need-same-length
 same-length c = search needs
@@ -76,12 +75,12 @@ same-length-2 c = search needs
 same-length-3 : tie.Need-same-length-3
 same-length-3 c = search needs
 
-returns-3 : tie.Need-returns-3
-returns-3 c =
+returns-2 : tie.Need-returns-2
+returns-2 c =
     let s = c .before .before .before .before .before .before .before .before .before .before .before .before .before .before in
     let a = s .args in
     let inside = row-inside (length (a .kept .now)) (a .width) (a .i) (length (a .others .now)) (s .pre .1) (s .pre .0 .table .wide) (length (a .table .now)) (s .pre .0 .table .size) in
-    visited-removed (a .table .now) (a .width) (a .kept .now) (a .degrees .now) (a .levels .now) (a .others .now) (a .limit) (a .level) (a .i) _ (falls-true (a .kept .now) (a .degrees .now) (a .limit) (a .i) (omega arith) (omega arith))
+    visited-removed (a .table .now) (a .width) (a .kept .now) (a .degrees .now) (a .levels .now) (a .others .now) (a .limit) (a .level) (a .i) _ (falls-true (a .kept .now) (a .degrees .now) (a .limit) (a .i) (s .pre .0 .bits (a .i) (s .pre .1)) _ (c .before .before .before .before .before .before .below .ensures) (c .before .before .before .before .before .if1 .left))
     (λ j h. omega (arith, c .before .before .subtract .ensures j h, part-at (a .table .now) (a .i * a .width) (length (a .others .now)) inside j 0 h, s .pre .0 .table .bits (a .i) j (s .pre .1) h))
 
 pub visit-spec : {M : Type 1} → statement M
@@ -89,9 +88,9 @@ visit-spec =
     tie.close
     (tie.spec
     slice-read-if1
+    shared-slice-read-below
+    below-requires
     returns
-    shared-slice-read-if2
-    returns-2
     slice-write-kept
     mul-levels
     slice-write-levels
@@ -104,4 +103,4 @@ visit-spec =
     same-length
     same-length-2
     same-length-3
-    returns-3)
+    returns-2)

@@ -1,11 +1,11 @@
 -- `states::State::start` meets its contract. Assumes nothing.
 use borrow.Author.Needs.{needs}
-use mathlib.Core.Path.{_≡_, refl, ap, _∙_}
+use mathlib.Core.Path.{_≡_, refl, sym, ap, _∙_}
 use Prim.Native.Nat.{ℕ, _+_}
 use native.Mathlib.Omega.{arith}
-use Rattle.model.specs.Graph.{nodes}
+use Rattle.model.specs.Graph.{nodes, degree, marked}
 use Rattle.states.specs.Steps.{first-marks}
-use Rattle.degrees.proofs.Rows.{ready-kept}
+use Rattle.states.proofs.Start.{start-degrees}
 use Rattle.states.proofs.State.start.Statement.{statement}
 use Rattle.states.proofs.State.start.Tie as tie
 
@@ -24,32 +24,42 @@ add-copy c = search needs
 copy-requires : tie.Need-copy-requires
 copy-requires c κs = search needs
 
-slice-aggregate-fill : tie.Need-slice-aggregate-fill
-slice-aggregate-fill c = search needs
+sub-join : tie.Need-sub-join
+sub-join c = search needs
 
-slice-aggregate-fill-2 : tie.Need-slice-aggregate-fill-2
-slice-aggregate-fill-2 c = search needs
+part-join-start : tie.Need-part-join-start
+part-join-start c = search needs
 
-fill-requires : tie.Need-fill-requires
-fill-requires c κs =
-    let s = c .before .before .before .before .before .before .before .before .before .before in
-    let o = s .pre .1 in (
-      (s .pre .0, ready-kept _ _ _ _ _ _ o _ _ (c .before .before .before .copy .ensures)),
-      omega (arith, o .operators, o .rides, o .tables .by-ride .wide, o .tables .by-operator .wide),
-    )
+part-join-end : tie.Need-part-join-end
+part-join-end c = search needs
+
+sub-join-2 : tie.Need-sub-join-2
+sub-join-2 c = search needs
+
+part-join-start-2 : tie.Need-part-join-start-2
+part-join-start-2 c = search needs
+
+part-join-end-2 : tie.Need-part-join-end-2
+part-join-end-2 c = search needs
+
+slice-aggregate-join : tie.Need-slice-aggregate-join
+slice-aggregate-join c = search needs
+
+join-requires : tie.Need-join-requires
+join-requires c κs = search needs
 
 returns : tie.Need-returns
 returns c = λ g o.
-    let copied = c .before .before .before .before .before .copy .ensures in
-    let a = c .before .before .before .before .before .before .before .before .before .before .before .before .args in
+    let a = c .before .before .before .before .before .before .before .before .before .before .before .before .before .before .before .args in
     let e : a .head .operators + a .head .rides ≡ nodes g = omega (arith, o .operators, o .rides) in
+    let copied = c .before .before .before .before .before .before .before .before .before .before .copy .ensures ∙ ap (λ (k : ℕ). first-marks k (a .marks .now)) e in
     record {
       steps = refl;
-      marks = copied ∙ ap (λ (k : ℕ). first-marks k (a .marks .now)) e;
+      marks = copied;
       state = record {
         operators = o .operators;
         rides = o .rides;
-        degrees = c .before .fill .ensures g (ready-kept _ _ _ _ _ _ o _ _ copied);
+        degrees = λ x h. start-degrees g (a .head) _ _ (a .marks .now) o _ (c .before .join .ensures) x h ∙ sym (ap (λ m. degree g (marked m) x) copied);
       };
     }
 
@@ -62,7 +72,12 @@ start-spec =
     slice-aggregate-copy
     add-copy
     copy-requires
-    slice-aggregate-fill
-    slice-aggregate-fill-2
-    fill-requires
+    sub-join
+    part-join-start
+    part-join-end
+    sub-join-2
+    part-join-start-2
+    part-join-end-2
+    slice-aggregate-join
+    join-requires
     returns)
