@@ -6,7 +6,7 @@ use Prim.Native.Nat.{ℕ, _+_, _≤_, _<_}
 use lib.ListN.{length, getD}
 use Rattle.model.specs.declared.Head.{Head}
 use Rattle.model.specs.Count.{bit}
-use Rattle.model.specs.Graph.{Graph, degree, everybody, counting}
+use Rattle.model.specs.Graph.{Graph, nodes, degree, everybody, counting}
 use Rattle.model.specs.Layout.{mark-places, listed, sized}
 use Rattle.tables.specs.Table.{Tables, table-graph}
 
@@ -35,3 +35,12 @@ pub record ReadUpTo (k : ℕ) (h : Head) (operators rides : List ℕ) (here : �
 pub record Tabulated (n m : ℕ) (by-operator by-ride operator-degrees ride-degrees : List ℕ) : Type 0 where
   pub tables : Tables (table-graph n m by-operator) by-operator by-ride
   pub degrees : BothDegrees (table-graph n m by-operator) operator-degrees ride-degrees
+
+-- the degrees of the operators, and behind them those of the rides
+pub record Joined (of-operators of-rides all : List ℕ) : Type 0 where
+  pub operators : (u : ℕ) → u < length of-operators → getD all u 0 ≡ getD of-operators u 0
+  pub rides : (v : ℕ) → v < length of-rides → getD all (length of-operators + v) 0 ≡ getD of-rides v 0
+
+-- one array has the degrees of all nodes in the pairs of g
+abbrev pub AllDegrees : Graph → List ℕ → Type 0
+AllDegrees g all = (x : ℕ) → x < nodes g → getD all x 0 ≡ degree g everybody x

@@ -1,15 +1,15 @@
 // The one reading of a pair table: its pairs that count fill the dense tables of clearances, and the degrees of the operators and of the rides.
 ghost use mathlib.Core.Path.{_≡_};
 ghost use mathlib.Core.Bool.{Bool, _&&_};
-ghost use Prim.Native.Nat.{ℕ, _≤_, _<_};
+ghost use Prim.Native.Nat.{ℕ, _+_, _≤_, _<_};
 ghost use lib.Dec.{eqb};
 ghost use lib.ListN.{length, getD};
 ghost use Rattle.model.specs.Count.{bit};
-ghost use Rattle.model.specs.Graph.{marked, present as is-present};
+ghost use Rattle.model.specs.Graph.{Graph, marked, present as is-present};
 ghost use Rattle.model.specs.Layout.{mark-places};
 ghost use Rattle.pairs.specs.Accepted.{AcceptedPairs};
 ghost use Rattle.tables.specs.Table.{ZeroTables};
-ghost use Rattle.degrees.specs.Degrees.{Bytes, ReadUpTo};
+ghost use Rattle.degrees.specs.Degrees.{Bytes, BothDegrees, ReadUpTo, Joined, AllDegrees};
 use model::Head;
 
 // 1 where a word is 1.
@@ -69,6 +69,7 @@ fn so_far(degrees: &[u8], u: usize, last: usize, degree: u8) -> u8
 }
 
 // The degrees of the operators and of the rides.
+#[repr(C)]
 pub struct Degrees {
     pub operators: [u8; 200],
     pub rides: [u8; 60],
@@ -117,4 +118,32 @@ pub fn tabulate(
         operators: operator_degrees,
         rides: ride_degrees,
     }
+}
+
+// Puts the degrees of the operators into an array, and those of the rides behind them.
+fn join(of_operators: &[u8], of_rides: &[u8], all: &mut [u8])
+    requires { ⌜ length (now «of_operators») + length (now «of_rides») ≤ length (now all) ⌝ }
+    ensures { λ _. ⌜ Joined (now («of_operators» .entry)) (now («of_rides» .entry)) (now (all .exit)) ⌝ }
+{
+    let n = of_operators.len();
+    let m = of_rides.len();
+    let end = n + m;
+    words::copy_bytes(of_operators, all, n);
+    words::copy_bytes(of_rides, &mut all[n..end], m);
+}
+
+// The degrees of all nodes in one array, as marks lie.
+pub fn joined(head: Head, degrees: Degrees) -> [u8; 260]
+    requires { ⌜ (head .operators ≤ 200) × (head .rides ≤ 60) ⌝ }
+    ensures { λ r. ⌜
+        ((g : Graph) → head .operators ≡ g .operators → head .rides ≡ g .rides → BothDegrees g (degrees .operators) (degrees .rides) → AllDegrees g r)
+        ⌝ }
+{
+    let n = head.operators as usize;
+    let m = head.rides as usize;
+    let operators = degrees.operators;
+    let rides = degrees.rides;
+    let mut all = [0u8; 260];
+    join(&operators[0..n], &rides[0..m], &mut all);
+    all
 }

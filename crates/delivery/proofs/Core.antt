@@ -11,7 +11,7 @@ use Rattle.model.specs.Graph.{Graph, nodes, limits, marked, present, index-of}
 use Rattle.model.specs.Layout.{Operators, Rides, Index, Presence, Parts, parts, Board, mark-places, listed-graph, board-graph}
 use Rattle.model.specs.Calls.{QueryOutcome, PeelOutcome, board-query, board-peel}
 use Rattle.model.specs.Demand.{IsCore, IsPeeledCore}
-use Rattle.model.proofs.Cover.{cover-laws}
+use Rattle.model.proofs.Cover.{cover-laws, cover-under-laws}
 use Rattle.model.proofs.Level.{level-laws}
 use Rattle.model.proofs.Peel.{peel-laws}
 use Rattle.model.proofs.Presence.{largest-start}
@@ -92,6 +92,7 @@ pub demand-2 : Demand2
 demand-2 =
     record {
       cover-laws = cover-laws;
+      cover-under-laws = cover-under-laws;
       level-laws = level-laws;
       peel-laws = peel-laws;
       zero-is-no-limit = zero-is-no-limit;

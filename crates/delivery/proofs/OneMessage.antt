@@ -154,7 +154,7 @@ kind-takes m k e n t = n (subst T (bit-test (giving (m .kind)) ∙ ap giving e) 
 -- ---- a ride: the example
 
 ride-moves : (message-refusal two-on-one ride-gone ≡ 0) × (row (board-graph two-on-one) 1 ≡ 2 ∷ 2 ∷ 2 ∷ []) × (row (board-graph (board-message two-on-one ride-gone .board)) 1 ≡ 0 ∷ 0 ∷ 0 ∷ [])
-unfolding Contents.slot Count.count Count.some Count.lowest Count.values Count.rows Count.passing Graph.degree Graph.limits Graph.short Graph.settled Graph.removals Graph.without Graph.peel Graph.cover Graph.level-to Graph.level Graph.row Graph.index-of Layout.listed Refusal.misplaced Refusal.refused-5 Refusal.refused-6 Refusal.refused-10 Refusal.first-number Refusal.board-short Refusal.build-refusal Refusal.message-refusal Calls.built Calls.board-build Contents.pair-numbers Contents.words Message.board-after Message.board-message
+unfolding Contents.slot Count.count Count.some Count.lowest Count.values Count.rows Count.passing Graph.degree Graph.limits Graph.short Graph.settled Graph.removals Graph.without Graph.peel Graph.cover-under Graph.cover Graph.level-to Graph.level Graph.row Graph.index-of Layout.listed Refusal.misplaced Refusal.refused-5 Refusal.refused-6 Refusal.refused-10 Refusal.first-number Refusal.board-short Refusal.build-refusal Refusal.message-refusal Calls.built Calls.board-build Contents.pair-numbers Contents.words Message.board-after Message.board-message
 ride-moves = (refl, refl, refl)
 
 pub one-message : OneMessage

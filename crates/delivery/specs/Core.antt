@@ -9,7 +9,7 @@ use Rattle.model.specs.Graph.{present, index-of}
 use Rattle.model.specs.Layout.{Operators, Rides, Index, Presence, Board, mark-places, board-graph}
 use Rattle.model.specs.Refusal.{build-refusal}
 use Rattle.model.specs.Calls.{board-query, board-peel}
-use Rattle.model.specs.Demand.{AllOnes, PeelLaws, CoverLaws, LevelLaws, ZeroIsNoLimit, PresenceLaws, QueryIsCore, IsCore, IndexThenQuery, BuildThenQuery, PreviewThenQuery, PeelIsLargest, IsPeeledCore, PeelIsCore}
+use Rattle.model.specs.Demand.{AllOnes, PeelLaws, CoverLaws, CoverUnderLaws, LevelLaws, ZeroIsNoLimit, PresenceLaws, QueryIsCore, IsCore, IndexThenQuery, BuildThenQuery, PreviewThenQuery, PeelIsLargest, IsPeeledCore, PeelIsCore}
 use Rattle.delivery.specs.Calls.{Call, run, built-board}
 
 -- the index that a list of calls left is that of the listed pairs that then count
@@ -46,6 +46,7 @@ CallsThenPeel =
 pub record Demand2 : Type 0 where
   -- of the definitions: cover, level and index, peel, and what a query marks
   pub cover-laws : CoverLaws
+  pub cover-under-laws : CoverUnderLaws
   pub level-laws : LevelLaws
   pub peel-laws : PeelLaws
   pub zero-is-no-limit : (h : Head) (index presence : List ℕ) → ZeroIsNoLimit h index presence

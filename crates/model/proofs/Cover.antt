@@ -1,5 +1,5 @@
 -- Cover (α, β) is the (α, β)-core of Definition 2.1, and covers nest. Assumes nothing.
-use mathlib.Core.Path.{_≡_, sym, subst}
+use mathlib.Core.Path.{_≡_, sym, ap, _∙_, subst}
 use mathlib.Core.Bool.{Bool, _&&_}
 use mathlib.Core.List.{List}
 use Prim.Native.Nat.{ℕ, _+_, _-_, _≤_, _<_}
@@ -7,11 +7,13 @@ use native.Mathlib.Omega.{arith}
 use native.Mathlib.Decide.{decLt}
 use lib.Dec.{T}
 use borrow.Author.Tests.{lt-ltb, le-ltb}
-use lib.ListN.{replicate}
-use Rattle.model.specs.Graph.{Graph, nodes, degree, Inside, Meets, limits, Core, marked, settled, peel, cover}
-use Rattle.model.specs.Demand.{AllOnes, CoverLaws}
-use Rattle.model.proofs.Count.{and-right, count-le, count-witness}
-use Rattle.model.proofs.Peel.{degree-operator, degree-ride, all-ones, all-marked, peel-laws}
+use lib.ListN.{length, getD, replicate, length-replicate}
+use lib.Seq.{ext-getD}
+use Rattle.model.specs.Count.{bit}
+use Rattle.model.specs.Graph.{Graph, nodes, degree, everybody, Inside, Meets, Largest, limits, Core, marked, settled, peel, cover-under, cover}
+use Rattle.model.specs.Demand.{AllOnes, CoverLaws, CoverUnderLaws}
+use Rattle.model.proofs.Count.{bit-of, and-right, count-le, count-witness}
+use Rattle.model.proofs.Peel.{degree-operator, degree-ride, all-ones, all-marked, peel-least, length-peel, peel-laws}
 
 module _ (n α β x : ℕ) where
   pub limits-operator : x < n → limits n α β x ≡ α
@@ -59,20 +61,45 @@ module _ (g : Graph) (s : ℕ → Bool) (x : ℕ) where
 -- ---- the cover
 
 -- the largest set inside all ones is the largest of all
-pub peeled-core : (g : Graph) (α β f : ℕ) (s : List ℕ) → AllOnes g s → T (settled g (limits (g .operators) α β) (peel g (limits (g .operators) α β) f s)) → Core g α β (marked (peel g (limits (g .operators) α β) f s))
-peeled-core g α β f s ones done =
-    let l = peel-laws .largest g (limits (g .operators) α β) f s done in
-    record {
-      inside = λ x h t. tt;
-      meets = l .meets;
-      largest = λ t i m. l .largest t (λ x h k. all-marked g s ones x h) m;
-    }
+module _ (g : Graph) (limit : ℕ → ℕ) where
+  peeled-largest : (f : ℕ) (s : List ℕ) → AllOnes g s → T (settled g limit (peel g limit f s)) → Largest g limit everybody (marked (peel g limit f s))
+  peeled-largest f s ones done =
+      let l = peel-laws .largest g limit f s done in
+      record {
+        inside = λ x h t. tt;
+        meets = l .meets;
+        largest = λ t i m. l .largest t (λ x h k. all-marked g s ones x h) m;
+      }
+
+  abbrev ones : List ℕ
+  ones = replicate (nodes g) 1
+
+  under-largest : Largest g limit everybody (marked (cover-under g limit))
+  unfolding cover-under
+  under-largest = peeled-largest (nodes g) ones (all-ones g) (peel-laws .settles g limit (nodes g) ones (count-le (marked ones) (nodes g)))
+
+  under-length : length (cover-under g limit) ≡ nodes g
+  unfolding cover-under
+  under-length = length-peel g limit (nodes g) ones ∙ length-replicate (nodes g) 1
+
+  under-bits : (x : ℕ) → x < nodes g → getD (cover-under g limit) x 0 ≤ 1
+  unfolding cover-under
+  under-bits x h = omega (arith, peel-least g limit (nodes g) ones x, all-ones g x h)
+
+  under-only : (s : List ℕ) → length s ≡ nodes g → ((x : ℕ) → x < nodes g → getD s x 0 ≤ 1) → Largest g limit everybody (marked s) → s ≡ cover-under g limit
+  under-only s long bits l =
+      let c : List ℕ = cover-under g limit in
+      ext-getD 0 s c (long ∙ sym under-length)
+      (λ x h.
+      let k : x < nodes g = omega arith in
+      bit-of (getD s x 0) (bits x k) ∙ ap bit (peel-laws .only g limit everybody (marked s) (marked c) l under-largest x k) ∙ sym (bit-of (getD c x 0) (under-bits x k)))
+
+pub cover-under-laws : CoverUnderLaws
+cover-under-laws = record { largest = under-largest; only = under-only }
 
 pub cover-core : (g : Graph) (α β : ℕ) → Core g α β (marked (cover g α β))
 unfolding cover
-cover-core g α β =
-    let ones : List ℕ = replicate (nodes g) 1 in
-    peeled-core g α β (nodes g) ones (all-ones g) (peel-laws .settles g (limits (g .operators) α β) (nodes g) ones (count-le (marked ones) (nodes g)))
+cover-core g α β = under-largest g (limits (g .operators) α β)
 
 -- a set that meets the limits lies inside the cover
 pub cover-holds : (g : Graph) (α β : ℕ) (t : ℕ → Bool) → Meets g (limits (g .operators) α β) t → Inside g t (marked (cover g α β))
@@ -82,7 +109,7 @@ pub cover-laws : CoverLaws
 cover-laws =
     record {
       core = cover-core;
-      peeled = peeled-core;
+      peeled = λ g α β. peeled-largest g (limits (g .operators) α β);
       nest = λ g α α′ β β′ a b.
           cover-holds g α β (marked (cover g α′ β′)) (λ x h t. omega (arith, cover-core g α′ β′ .meets x h t, limits-mono g α α′ β β′ a b x));
     }

@@ -147,6 +147,9 @@ module _ (s : List ℕ) (x : ℕ) where
         | no h ↦ (let l : length s ≤ x = omega arith in ap (λ (z : List ℕ). getD z x 0) (set-out s x 0 l) ∙ List·getD-eq-default s 0 l)
       ]
 
+  getD-less : (y : ℕ) → getD (set s x 0) y 0 ≤ getD s y 0
+  getD-less y = elim (ℕ-discrete y x) [ yes e ↦ omega (arith, getD-cleared, ap (λ (z : ℕ). getD (set s x 0) z 0) e) | no n ↦ omega (arith, getD-set-other s x y 0 0 n) ]
+
   pub marked-cleared : T (marked (set s x 0) x) → ⊥
   marked-cleared t = subst (λ (z : ℕ). T (eqb z 1)) getD-cleared t
 
@@ -286,6 +289,16 @@ module _ (g : Graph) (limit : ℕ → ℕ) where
       (λ s y t. t)
       (λ f s n y t. t)
       (λ f s x xs l rest y t. marked-less s x y (rest y t))
+
+  -- nor raises a mark
+  pub peel-least : (f : ℕ) (s : List ℕ) (y : ℕ) → getD (peel g limit f s) y 0 ≤ getD s y 0
+  unfolding peel without
+  peel-least =
+      removals-ind g limit
+      (λ f s xs. (y : ℕ) → getD (without s xs) y 0 ≤ getD s y 0)
+      (λ s y. omega arith)
+      (λ f s n y. omega arith)
+      (λ f s x xs l rest y. omega (arith, rest y, getD-less s x y))
 
   -- and keeps each set that meets the limit
   peel-keeps : (t : ℕ → Bool) → Meets g limit t → (f : ℕ) (s : List ℕ) → Inside g t (marked s) → Inside g t (marked (peel g limit f s))

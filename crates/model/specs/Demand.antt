@@ -9,7 +9,7 @@ use lib.ListN.{length, getD, set, drop}
 use Rattle.model.specs.declared.Head.{Head}
 use Rattle.model.specs.declared.Message.{Message}
 use Rattle.model.specs.Count.{count, some}
-use Rattle.model.specs.Graph.{Graph, nodes, degree, everybody, Inside, Largest, limits, CoreInside, Core, marked, present, counting, raised, short, settled, removals, peel, cover, level, row-for, in-by-level, index-of}
+use Rattle.model.specs.Graph.{Graph, nodes, degree, everybody, Inside, Largest, limits, CoreInside, Core, marked, present, counting, raised, short, settled, removals, peel, cover-under, cover, level, row-for, in-by-level, index-of}
 use Rattle.model.specs.Layout.{Part, Index, Presence, Board, mark-places, places, of-parts, exact, copied, sized, counting-graph, listed-graph, board-graph}
 use Rattle.model.specs.Contents.{Slot, Pair, Operator, Ride, Entry, gives, later, slot, entry, contents}
 use Rattle.model.specs.Refusal.{refused-1, refused-2, refused-7, refused-8, refused-9, refused-14, outside, unused, first-number, board-short, valid-cases, build-refusal, list-refusal, peel-refusal}
@@ -62,6 +62,14 @@ pub record CoverLaws : Type 0 where
   pub peeled : (g : Graph) (α β f : ℕ) (s : List ℕ) → AllOnes g s →
       T (settled g (limits (g .operators) α β) (peel g (limits (g .operators) α β) f s)) → Core g α β (marked (peel g (limits (g .operators) α β) f s))
   pub nest : (g : Graph) (α α′ β β′ : ℕ) → α ≤ α′ → β ≤ β′ → Inside g (marked (cover g α′ β′)) (marked (cover g α β))
+
+-- The cover under a limit for each node, whatever the limits are
+pub record CoverUnderLaws : Type 0 where
+  -- it is the largest set that meets them
+  pub largest : (g : Graph) (limit : ℕ → ℕ) → Largest g limit everybody (marked (cover-under g limit))
+  -- in whatever order nodes were dropped: marks of 0 and 1 for that set are those of the peel
+  pub only : (g : Graph) (limit : ℕ → ℕ) (s : List ℕ) → length s ≡ nodes g → ((x : ℕ) → x < nodes g → getD s x 0 ≤ 1) →
+      Largest g limit everybody (marked s) → s ≡ cover-under g limit
 
 -- the graph g with other clearances
 abbrev pub changed : Graph → (ℕ → ℕ → Bool) → Graph

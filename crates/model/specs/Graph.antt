@@ -103,9 +103,13 @@ without s (x ∷ xs) = without (set s x 0) xs
 unfoldable pub peel : Graph → (ℕ → ℕ) → ℕ → List ℕ → List ℕ
 peel g limit f s = without s (removals g limit f s)
 
--- Cover (α, β), as marks: the peel from all ones
+-- the cover under a limit for each node, as marks: the peel from all ones
+unfoldable pub cover-under : Graph → (ℕ → ℕ) → List ℕ
+cover-under g limit = peel g limit (nodes g) (replicate (nodes g) 1)
+
+-- Cover (α, β), as marks
 unfoldable pub cover : Graph → ℕ → ℕ → List ℕ
-cover g α β = peel g (limits (g .operators) α β) (nodes g) (replicate (nodes g) 1)
+cover g α β = cover-under g (limits (g .operators) α β)
 
 -- the largest β from 1 to b whose cover (α, β) holds x, or 0 if none does
 unfoldable pub level-to : Graph → ℕ → ℕ → ℕ → ℕ

@@ -10,9 +10,8 @@ use Rattle.model.specs.Graph.{Graph, marked, present}
 use Rattle.model.specs.Layout.{counting-graph, listed, mark-places}
 use Rattle.model.specs.Calls.{peeled}
 use Rattle.model.proofs.Count.{test-true, and-left, and-right}
-use Rattle.pairs.specs.Accepted.{AcceptedPairs}
 use Rattle.degrees.specs.Degrees.{BothDegrees, first-pairs}
-use Rattle.states.specs.Steps.{Ready}
+use Rattle.pair_peels.specs.Peel.{Ready}
 use Rattle.pair_peels.proofs.Same.{peeled-same}
 
 module _ (h : Head) (operators rides presence marks : List ℕ) where
@@ -25,13 +24,11 @@ module _ (h : Head) (operators rides presence marks : List ℕ) where
   here-marked : (x : ℕ) → T (here x) → T (marked marks x)
   here-marked x = and-right (present presence x) (marked marks x)
 
-  pub marked-ready : AcceptedPairs h operators rides → mark-places h ≤ length marks → (d d′ : List ℕ) → BothDegrees between d d′ → Ready between h d d′ marks
-  marked-ready accepted room d d′ degrees =
+  pub marked-ready : mark-places h ≤ length marks → (d d′ : List ℕ) → BothDegrees between d d′ → Ready between h d d′ marks
+  marked-ready room d d′ degrees =
       record {
         operators = refl;
         rides = refl;
-        few-operators = accepted .few-operators;
-        few-rides = accepted .few-rides;
         degrees = degrees;
         room = room;
         within = λ u v k l t.

@@ -1,47 +1,64 @@
 // The peel of a pair table: its pairs are read, its limits filled, and marks are cleared.
-ghost use Prim.Native.Nat.{_≤_};
+ghost use mathlib.Core.Path.{_≡_};
+ghost use mathlib.Core.List.{List};
+ghost use Prim.Native.Nat.{ℕ, _+_, _≤_};
 ghost use lib.ListN.{length};
-ghost use Rattle.model.specs.Graph.{Graph};
+ghost use Rattle.model.specs.Count.{bit};
+ghost use Rattle.model.specs.Graph.{Graph, settled};
 ghost use Rattle.model.specs.Layout.{counting-graph, mark-places};
 ghost use Rattle.model.specs.Calls.{peeled, peel-limits};
 ghost use Rattle.pairs.specs.Accepted.{AcceptedPairs};
 ghost use Rattle.tables.specs.Table.{Tables, ZeroTables};
 ghost use Rattle.limits.specs.Limits.{limit-of};
-ghost use Rattle.states.specs.Steps.{Ready};
-ghost use Rattle.pair_peels.specs.Peel.{Gives};
+ghost use Rattle.states.specs.Steps.{StateOf};
+ghost use Rattle.pair_peels.specs.Peel.{Ready, Gives};
 use degrees::Degrees;
 use model::Head;
 use model::Peeled;
 use states::State;
 
+// 1 (settled) where nobody falls short, else 0 (unsettled).
+fn is_settled(state: State) -> u16
+    requires { ⌜ state .operators + state .rides ≤ 260 ⌝ }
+    ensures { λ r. ⌜
+        ((g : Graph) (limit : ℕ → ℕ) (limits marks : List ℕ) → StateOf g limit state limits marks → r ≡ bit (settled g limit marks))
+        ⌝ }
+{
+    if state.next < state.operators + state.rides {
+        0
+    } else {
+        1
+    }
+}
+
 // Peel: clears marks, each time the lowest operator that falls short of its limit, else the lowest ride, in at most the allowed steps.
 fn peel_tables(
     head: Head,
-    rows: &[u8],
-    columns: &[u8],
+    by_operator: &[u8],
+    by_ride: &[u8],
     degrees: Degrees,
     limits: &[u16],
     marks: &mut [u16],
     allowed: u16,
 ) -> Peeled
     requires { ⌜
-        ((g : Graph) × Ready g head (degrees .operators) (degrees .rides) (now marks) × Tables g (now rows) (now columns)) ×
+        ((g : Graph) × Ready g head (degrees .operators) (degrees .rides) (now marks) × Tables g (now «by_operator») (now «by_ride»)) ×
         (mark-places head ≤ length (now limits))
         ⌝ }
     ensures { λ r. ⌜
-        ((g : Graph) → Ready g head (degrees .operators) (degrees .rides) (now (marks .entry)) → Tables g (now (rows .entry)) (now (columns .entry)) →
+        ((g : Graph) → Ready g head (degrees .operators) (degrees .rides) (now (marks .entry)) →
+        Tables g (now («by_operator» .entry)) (now («by_ride» .entry)) →
         Gives (peeled g (limit-of (now (limits .entry))) allowed (now (marks .entry))) r (now (marks .exit)))
         ⌝ }
 {
-    let operators = head.operators as usize;
-    let rides = head.rides as usize;
-    let first = State::start(head, degrees, marks);
-    let last = peeling::run(first, rows, columns, limits, allowed);
-    let left = last.marks;
-    words::copy(&left, marks, operators + rides);
+    let nodes = head.operators as usize + head.rides as usize;
+    let mut bytes = limits::bytes(limits, marks, nodes);
+    let all = degrees::joined(head, degrees);
+    let first = State::start(head, all, &bytes);
+    let last = peeling::run(first, by_operator, by_ride, &mut bytes, marks, allowed);
     Peeled {
         code: 0,
-        settled: peeling::is_settled(last, limits),
+        settled: is_settled(last),
         steps: last.steps,
     }
 }

@@ -37,7 +37,7 @@ all-agree (r ∷ rs) t =
     (same-equal (r .0) (r .1) (and-left (same (r .0) (r .1)) (all-same rs) t), all-agree rs (and-right (same (r .0) (r .1)) (all-same rs) t))
 
 tested : T (all-same samples) × T (all-same zero-samples) × T (all-same preview-samples) × T (all-same revision-samples) × T (all-same presence-samples)
-unfolding samples zero-samples preview-samples revision-samples presence-samples Graph.raised Contents.slot Layout.copied Refusal.preview-refusal Message.board-preview Count.count Count.some Count.lowest Count.values Count.rows Graph.degree Graph.limits Graph.short Graph.settled Graph.removals Graph.without Graph.peel Graph.cover Graph.level-to Graph.level Graph.row Graph.index-of Layout.listed Layout.differing Refusal.misplaced Refusal.refused-5 Refusal.refused-12 Refusal.first-number Refusal.board-short Refusal.peel-refusal Refusal.query-refusal Calls.query-marks Calls.counts Calls.board-query Calls.peeled Calls.board-peel Count.passing Refusal.build-refusal Refusal.refused-6 Refusal.refused-10 Refusal.message-refusal Calls.built Calls.board-build Contents.pair-numbers Contents.words Message.board-after Message.board-message
+unfolding samples zero-samples preview-samples revision-samples presence-samples Graph.raised Contents.slot Layout.copied Refusal.preview-refusal Message.board-preview Count.count Count.some Count.lowest Count.values Count.rows Graph.degree Graph.limits Graph.short Graph.settled Graph.removals Graph.without Graph.peel Graph.cover-under Graph.cover Graph.level-to Graph.level Graph.row Graph.index-of Layout.listed Layout.differing Refusal.misplaced Refusal.refused-5 Refusal.refused-12 Refusal.first-number Refusal.board-short Refusal.peel-refusal Refusal.query-refusal Calls.query-marks Calls.counts Calls.board-query Calls.peeled Calls.board-peel Count.passing Refusal.build-refusal Refusal.refused-6 Refusal.refused-10 Refusal.message-refusal Calls.built Calls.board-build Contents.pair-numbers Contents.words Message.board-after Message.board-message
 tested = (tt, tt, tt, tt, tt)
 
 pub samples-hold : Agree samples

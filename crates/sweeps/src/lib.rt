@@ -1,17 +1,8 @@
 // One side of the clearance graph swept: its nodes that fall short of a limit are removed, and the degrees of the other side fall.
-ghost use mathlib.Core.Path.{_≡_};
 ghost use Prim.Native.Nat.{_<_};
-ghost use lib.Dec.{ltb};
 ghost use lib.ListN.{length};
-ghost use Rattle.model.specs.Count.{bit};
 ghost use Rattle.sweeps.specs.Sweep.{Side, Visited, Swept};
-
-// 1 where a degree is below the limit.
-fn below(degree: u8, limit: u8) -> u8
-    ensures { λ r. ⌜ r ≡ bit (ltb degree limit) ⌝ }
-{
-    if degree < limit { 1 } else { 0 }
-}
+use limits::below;
 
 // Removes node i of a side where it is kept and falls short of the limit.
 fn visit(

@@ -1,7 +1,8 @@
 -- `states::State::step` meets its contract. Assumes nothing.
 use borrow.Author.Needs.{needs}
+use mathlib.Core.Path.{refl}
 use native.Mathlib.Omega.{arith}
-use Rattle.states.proofs.Steps.{operator-clears, operator-stepped, ride-clears, ride-stepped}
+use Rattle.states.proofs.Steps.{next-le, next-looked, stepped}
 use Rattle.states.proofs.State.step.Statement.{statement}
 use Rattle.states.proofs.State.step.Tie as tie
 
@@ -11,55 +12,42 @@ cast-operators c = search needs
 cast-rides : tie.Need-cast-rides
 cast-rides c = search needs
 
-mul-from : tie.Need-mul-from
-mul-from c = search needs
+cast-x : tie.Need-cast-x
+cast-x c = search needs
 
-add-cleared : tie.Need-add-cleared
-add-cleared c = search needs
+element-write-limits : tie.Need-element-write-limits
+element-write-limits c = search needs
 
-sub-cleared : tie.Need-sub-cleared
-sub-cleared c = search needs
+mul-marks : tie.Need-mul-marks
+mul-marks c = search needs
 
-part-cleared-start : tie.Need-part-cleared-start
-part-cleared-start c = search needs
+slice-write-marks : tie.Need-slice-write-marks
+slice-write-marks c = search needs
 
-part-cleared-end : tie.Need-part-cleared-end
-part-cleared-end c = search needs
+look-from-requires : tie.Need-look-from-requires
+look-from-requires c κs = search needs
 
-cleared-requires : tie.Need-cleared-requires
-cleared-requires c κs =
-    let s = c .before .before .before .before .before .before in
-    let o = s .pre .0 .2 in
-    operator-clears _ _ _ (s .pre .0 .1) _ o _ (s .pre .1 .1) _ _ (o .operators) (o .rides) (omega arith) (s .pre .1 .2)
+add-lowest-short : tie.Need-add-lowest-short
+add-lowest-short c = search needs
+
+lowest-short-requires : tie.Need-lowest-short-requires
+lowest-short-requires c κs = let s = c .before .before .before .before .before .before .before .before .before .before in
+    let p = s .pre .0 in
+    next-looked (p .0) (p .1) _ _ _ (p .2) (s .pre .1) _ (c .before .before .look-from .ensures)
+
+add-t19 : tie.Need-add-t19
+add-t19 c = search needs
+
+cast-t20 : tie.Need-cast-t20
+cast-t20 c = let s = c .before .before .before .before .before .before .before .before .before .before .before .before in
+    let p = s .pre .0 .2 in
+    omega (arith, next-le _ _ _ (c .before .lowest-short .ensures), p .few-operators, p .few-rides, p .remaining .operators-are, p .remaining .rides-are)
+
+same-length : tie.Need-same-length
+same-length c = search needs
 
 returns : tie.Need-returns
-returns c = λ g t o.
-    operator-stepped _ _ _ t _ o _ (c .before .before .before .before .before .before .before .pre .1 .1) _ _ (o .operators) (o .rides) (omega arith) _ (c .cleared .ensures)
-
-mul-from-2 : tie.Need-mul-from-2
-mul-from-2 c = search needs
-
-add-cleared-2 : tie.Need-add-cleared-2
-add-cleared-2 c = search needs
-
-sub-cleared-2 : tie.Need-sub-cleared-2
-sub-cleared-2 c = search needs
-
-part-cleared-start-2 : tie.Need-part-cleared-start-2
-part-cleared-start-2 c = search needs
-
-part-cleared-end-2 : tie.Need-part-cleared-end-2
-part-cleared-end-2 c = search needs
-
-cleared-requires-2 : tie.Need-cleared-requires-2
-cleared-requires-2 c κs =
-    let s = c .before .before .before .before .before .before in
-    let o = s .pre .0 .2 in
-    ride-clears _ _ _ (s .pre .0 .1) _ o _ (s .pre .1 .1) _ _ (o .operators) (o .rides) (omega arith) (omega arith) (s .pre .1 .2)
-
-returns-2 : tie.Need-returns-2
-returns-2 c = λ g t o.
-    ride-stepped _ _ _ t _ o _ (c .before .before .before .before .before .before .before .pre .1 .1) _ _ (o .operators) (o .rides) (omega arith) (omega arith) _ (c .cleared2 .ensures)
+returns c = λ g limit o. stepped g limit _ _ _ o (c .before .before .before .before .before .before .before .before .before .before .before .before .pre .1) _ refl refl refl refl (c .before .lowest-short .ensures)
 
 pub step-spec : {M : Type 1} → statement M
 step-spec =
@@ -67,17 +55,14 @@ step-spec =
     (tie.spec
     cast-operators
     cast-rides
-    mul-from
-    add-cleared
-    sub-cleared
-    part-cleared-start
-    part-cleared-end
-    cleared-requires
-    returns
-    mul-from-2
-    add-cleared-2
-    sub-cleared-2
-    part-cleared-start-2
-    part-cleared-end-2
-    cleared-requires-2
-    returns-2)
+    cast-x
+    element-write-limits
+    mul-marks
+    slice-write-marks
+    look-from-requires
+    add-lowest-short
+    lowest-short-requires
+    add-t19
+    cast-t20
+    same-length
+    returns)

@@ -1,0 +1,3 @@
+pub mod Drop
+pub mod Lacking
+pub mod Start
