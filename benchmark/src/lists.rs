@@ -176,10 +176,10 @@ impl Lists {
     }
 }
 
-/// A peel from all ones to the end, over adjacency lists made of the pairs that count by these presence words, n operators
-/// first; marks and steps. The order of its removals is that of a worklist, since settled marks and their steps are the
-/// same in any order.
-pub fn peel(n: usize, presence: &[u16], pairs: &[(u16, u16)], alpha: u16, beta: u16) -> (Vec<u16>, u16) {
+/// A peel from all ones to the end under these limits, over adjacency lists made of the pairs that count by these presence
+/// words, n operators first; marks and steps. The order of its removals is that of a worklist, since settled marks and their
+/// steps are the same in any order.
+pub fn peel(n: usize, presence: &[u16], pairs: &[(u16, u16)], limits: &[u16]) -> (Vec<u16>, u16) {
     let nodes = presence.len();
     let present = |node: usize| presence[node] == PRESENT;
     let mut neighbours = vec![Vec::new(); nodes];
@@ -190,7 +190,7 @@ pub fn peel(n: usize, presence: &[u16], pairs: &[(u16, u16)], alpha: u16, beta: 
             neighbours[ride].push(operator);
         }
     }
-    let limit = |node: usize| if node < n { alpha as usize } else { beta as usize };
+    let limit = |node: usize| limits[node] as usize;
     let mut degrees: Vec<usize> = neighbours.iter().map(Vec::len).collect();
     let mut marks = vec![1; nodes];
     let mut short: Vec<usize> = (0..nodes).filter(|&node| !present(node) || degrees[node] < limit(node)).collect();

@@ -1,6 +1,9 @@
 //! The library beside two Rust programs, on equal input in one run: (a) document 003's Algorithm 1 with adjacency lists,
 //! rebuilt after each message, and (b) the library's own algorithm. Prints the tables of docs/BENCHMARK.md.
 
+mod covers;
+#[path = "../../differential/src/kernel.rs"]
+mod kernel;
 mod lists;
 mod memory;
 mod previews;
@@ -68,6 +71,19 @@ impl Case {
     fn nodes(&self) -> usize {
         self.operators as usize + self.rides as usize
     }
+
+    /// The limits alpha of each operator and beta of each ride, as a list.
+    fn limit_list(&self, (alpha, beta): (u16, u16)) -> Vec<u16> {
+        [vec![alpha; self.operators as usize], vec![beta; self.rides as usize]].concat()
+    }
+
+    fn line(&self, call: &'static str, times: [Vec<f64>; 3]) -> Line {
+        Line { call, operators: self.operators, rides: self.rides, pairs: self.pairs.len(), times }
+    }
+
+    fn tell(&self, call: &str) {
+        eprintln!("measures {call}, {} × {}, {} pairs", self.operators, self.rides, self.pairs.len());
+    }
 }
 
 fn median(mut numbers: Vec<f64>) -> f64 {
@@ -92,8 +108,8 @@ fn measure<const N: usize>(calls: usize, programs: &mut [&mut dyn FnMut(); N]) -
     times
 }
 
-/// The limits of a query and a peel, under which at least half of the rides are dropped: alpha is two thirds of the
-/// operators' mean degree, beta one more than the level of the ride in the middle of that row.
+/// The limits of a query, and of a peel that drops everybody: alpha is two thirds of the operators' mean degree, beta one
+/// more than the level of the ride in the middle of that row.
 fn limits(case: &Case, board: &Board) -> (u16, u16) {
     let alpha = (case.pairs.len() / case.operators as usize * 2 / 3).max(1) as u16;
     let mut levels = board.row(alpha).unwrap()[case.operators as usize..].to_vec();
@@ -101,7 +117,19 @@ fn limits(case: &Case, board: &Board) -> (u16, u16) {
     (alpha, levels[levels.len() / 2] + 1)
 }
 
-/// One line of the table: microseconds of the library, (a) and (b), in each round.
+/// The limits that drop about half: of all, those whose cover has the number of nodes nearest to half, the first of equals.
+/// Above the number of rides and of operators limits drop the same.
+fn half(case: &Case, board: &Board) -> (u16, u16) {
+    let mut marks = vec![0; case.nodes()];
+    let mut off = |&(alpha, beta): &(u16, u16)| {
+        let counts = board.query(alpha, beta, &mut marks).unwrap();
+        case.nodes().abs_diff(2 * (counts.operators as usize + counts.rides as usize))
+    };
+    let all = (0..=case.rides + 1).flat_map(|alpha| (0..=case.operators + 1).map(move |beta| (alpha, beta)));
+    all.min_by_key(|limits| off(limits)).unwrap()
+}
+
+/// One line of the table: microseconds of the library, (a) and (b), in each round; none where there is no such program.
 struct Line {
     call: &'static str,
     operators: u16,
@@ -111,6 +139,10 @@ struct Line {
 }
 
 impl Line {
+    fn has(&self, program: usize) -> bool {
+        !self.times[program].is_empty()
+    }
+
     fn time(&self, program: usize) -> f64 {
         median(self.times[program].clone())
     }
@@ -137,14 +169,15 @@ fn queries(case: &Case, board: &Board, alpha: u16, beta: u16) -> ([Vec<f64>; 3],
     let mut look_at_it = || {
         black_box(look());
     };
-    let times = measure(2000, &mut [&mut ask_it, &mut || {}, &mut look_at_it]);
+    let [library, same] = measure(2000, &mut [&mut ask_it, &mut look_at_it]);
     let (counts, asked) = (ask(), marks.replace(vec![0; case.nodes()]));
     assert!((counts.operators, counts.rides) == look() && asked == *marks.borrow());
-    (times, asked)
+    ([library, Vec::new(), same], asked)
 }
 
-/// The times of a peel from all ones, with all steps allowed, and the marks.
-fn peels(case: &Case, board: &Board, tables: &Tables, alpha: u16, beta: u16) -> ([Vec<f64>; 3], Vec<u16>) {
+/// The times of a peel from all ones, with all steps allowed. It leaves the marks of a query.
+fn peels(case: &Case, board: &Board, tables: &Tables, (alpha, beta): (u16, u16)) -> [Vec<f64>; 3] {
+    let limits = case.limit_list((alpha, beta));
     let (mut marks, mut same) = (Vec::new(), Vec::new());
     let (mut peeled, mut listed, mut again) = (None, None, None);
     let (n, presence) = (case.operators as usize, board.words().presence);
@@ -155,7 +188,7 @@ fn peels(case: &Case, board: &Board, tables: &Tables, alpha: u16, beta: u16) -> 
                 marks = vec![1; case.nodes()];
                 peeled = Some(board.peel(&mut marks, alpha, beta, u16::MAX).unwrap());
             },
-            &mut || listed = Some(lists::peel(n, black_box(presence), black_box(&case.pairs), alpha, beta)),
+            &mut || listed = Some(lists::peel(n, black_box(presence), black_box(&case.pairs), black_box(&limits))),
             &mut || {
                 same = vec![1; case.nodes()];
                 again = black_box(tables).peel(&mut same, alpha, beta, u16::MAX);
@@ -165,12 +198,14 @@ fn peels(case: &Case, board: &Board, tables: &Tables, alpha: u16, beta: u16) -> 
     let (peeled, listed) = (peeled.unwrap(), listed.unwrap());
     assert!(peeled.settled && marks == listed.0 && peeled.steps == listed.1 && marks == same);
     assert!(again == Some((true, peeled.steps)));
-    (times, marks)
+    board.query(alpha, beta, &mut same).unwrap();
+    assert!(marks == same);
+    times
 }
 
 /// Queries and a peel where a tenth is off or out, and queries with limits of 0 there, which mark as a peel does.
 fn run_with_some_away(case: &Case) -> Vec<Line> {
-    let (operators, rides, pairs) = (case.operators, case.rides, case.pairs.len());
+    let (operators, rides) = (case.operators, case.rides);
     let mut memory = Box::new(Memory::new());
     let mut board = Board::build(memory.parts(), operators, rides, &case.pairs, START).unwrap();
     let mut lists = Lists::build(operators, rides, &case.pairs, START);
@@ -182,13 +217,12 @@ fn run_with_some_away(case: &Case) -> Vec<Line> {
     }
     assert!(board.words() == tables.words() && board.words().index == lists.index);
     let (alpha, beta) = limits(case, &board);
-    let tell = |call| eprintln!("measures {call}, {operators} × {rides}, {pairs} pairs");
     let line = |(call, alpha, beta)| {
-        tell(call);
+        case.tell(call);
         let (times, asked) = queries(case, &board, alpha, beta);
         let (n, presence) = (operators as usize, board.words().presence);
-        assert!(asked == lists::peel(n, presence, &case.pairs, alpha, beta).0);
-        Line { call, operators, rides, pairs, times }
+        assert!(asked == lists::peel(n, presence, &case.pairs, &case.limit_list((alpha, beta))).0);
+        case.line(call, times)
     };
     let asked = [
         ("query, a tenth off or out", alpha, beta),
@@ -199,20 +233,18 @@ fn run_with_some_away(case: &Case) -> Vec<Line> {
     ];
     let mut lines: Vec<Line> = asked.map(line).into();
     let call = "peel, a tenth off or out";
-    tell(call);
-    lines.push(Line { call, operators, rides, pairs, times: peels(case, &board, &tables, alpha, beta).0 });
+    case.tell(call);
+    lines.push(case.line(call, peels(case, &board, &tables, half(case, &board))));
     lines
 }
 
 fn run(case: &Case) -> Vec<Line> {
     let (n, m) = (case.operators, case.rides);
-    let line = |call, times| Line { call, operators: n, rides: m, pairs: case.pairs.len(), times };
-    let tell = |call| eprintln!("measures {call}, {n} × {m}, {} pairs", case.pairs.len());
     let mut lines = Vec::new();
     let mut memory = Box::new(Memory::new());
 
     // Build. The library's and (b)'s memory is lent and the pairs stand in it, (a) makes its lists of the pairs.
-    tell("build");
+    case.tell("build");
     let (mut tables, mut lent) = (Tables::new(n, m, &case.pairs), Tables::new(n, m, &case.pairs));
     lent.revisions.fill(9);
     lent.presence.fill(9);
@@ -241,23 +273,26 @@ fn run(case: &Case) -> Vec<Line> {
         ],
     );
     assert!(lent.index == lists.index && lent.words() == tables.words());
-    lines.push(line("build", times));
+    lines.push(case.line("build", times));
 
     // Query, after the build.
-    tell("query");
+    case.tell("query");
     let mut board = Board::build(memory.parts(), n, m, &case.pairs, START).unwrap();
     let (alpha, beta) = limits(case, &board);
     let (times, asked) = queries(case, &board, alpha, beta);
-    lines.push(line("query", times));
+    assert!(asked.iter().all(|mark| *mark == 0));
+    lines.push(case.line("query", times));
 
-    // Peel.
-    tell("peel");
-    let (times, marks) = peels(case, &board, &tables, alpha, beta);
-    assert!(marks == asked);
-    lines.push(line("peel", times));
+    // Peels and covers under limits.
+    for (call, limits) in [("peel", half(case, &board)), ("peel, everybody dropped", (alpha, beta))] {
+        case.tell(call);
+        lines.push(case.line(call, peels(case, &board, &tables, limits)));
+    }
+    lines.extend(covers::lines(case, &board, half(case, &board), covers::HALF));
+    lines.extend(covers::lines(case, &board, (alpha, beta), covers::EVERYBODY));
 
     // Message: all are taken.
-    tell("message");
+    case.tell("message");
     let mut next = [0; 3];
     let mut turn = |program: usize| {
         next[program] += 1;
@@ -276,7 +311,7 @@ fn run(case: &Case) -> Vec<Line> {
     );
     assert!(board.words().index == lists.index && differ[0] == differ[1] && differ[0] == differ[2]);
     assert!(board.words() == tables.words());
-    lines.push(line("message", times));
+    lines.push(case.line("message", times));
     lines
 }
 
@@ -320,39 +355,77 @@ fn print_bursts() {
     println!("- at most {most} × (a): {ratio:.4}, {reached}\n");
 }
 
-/// By call; lines of one call stay in their order.
+/// By call, in the order in which each first comes; lines of one call stay in their order.
 fn sort(lines: &mut [Line]) {
-    lines.sort_by_key(|line| ["build", "query", "peel", "message"].iter().position(|call| line.call.starts_with(call)));
+    let first: Vec<&str> = lines.iter().map(|line| line.call).collect();
+    let words = ["build", "query", "peel", "cover", "message"];
+    lines.sort_by_key(|line| {
+        let word = words.iter().position(|word| line.call.starts_with(word));
+        (word, first.iter().position(|call| *call == line.call))
+    });
 }
 
 fn print_lines(lines: &[Line]) {
     println!("| Call | Board | Pairs | library µs | (a) µs | (b) µs | library / (a) | library / (b) |");
     println!("|---|---|---:|---:|---:|---:|---:|---:|");
     for line in lines {
-        let (library, same) = (line.time(0), line.time(2));
-        let (digits, lists, ratio) = if line.call.starts_with("query") {
-            (3, "".to_string(), "".to_string())
-        } else {
-            (1, format!("{:.1}", line.time(1)), format!("{:.2}", line.ratio(1)))
+        let digits = match line.call {
+            call if call.starts_with("query") => 3,
+            call if call.starts_with("cover") => 2,
+            _ => 1,
         };
+        let [lists, same] = [1, 2].map(|program| match line.has(program) {
+            true => (format!("{:.digits$}", line.time(program)), format!("{:.2}", line.ratio(program))),
+            false => Default::default(),
+        });
         println!(
-            "| {} | {} × {} | {} | {library:.digits$} | {lists} | {same:.digits$} | {ratio} | {:.2} |",
+            "| {} | {} × {} | {} | {:.digits$} | {} | {} | {} | {} |",
             line.call,
             line.operators,
             line.rides,
             line.pairs,
-            line.ratio(2)
+            line.time(0),
+            lists.0,
+            same.0,
+            lists.1,
+            same.1
         );
     }
     println!();
 }
 
-fn print_goal(lines: &[Line], call: &str, against: usize, name: &str, most: f64) {
-    let line = lines.iter().find(|line| line.call == call && line.operators == 200 && line.pairs == 6000).unwrap();
-    let ratio = line.ratio(against);
-    let reached = if ratio <= most { "reached" } else { "NOT reached" };
-    println!("- {call} at most {most} × {name}: {ratio:.2}, {reached}");
+/// The limits that drop about half, and how many are kept.
+fn print_halves(cases: &[Case]) {
+    println!("Limits that drop about half, for the peels and covers where the table doesn't say that everybody is dropped:\n");
+    for case in cases {
+        let mut memory = Box::new(Memory::new());
+        let board = Board::build(memory.parts(), case.operators, case.rides, &case.pairs, START).unwrap();
+        let (alpha, beta) = half(case, &board);
+        let counts = board.query(alpha, beta, &mut vec![0; case.nodes()]).unwrap();
+        println!(
+            "- {} × {}, {} pairs: α = {alpha}, β = {beta}, of {} nodes {} are kept",
+            case.operators,
+            case.rides,
+            case.pairs.len(),
+            case.nodes(),
+            counts.operators + counts.rides
+        );
+    }
+    println!();
 }
+
+/// Whether each line of a call is within so much of another program.
+fn print_goal<'a>(lines: impl IntoIterator<Item = &'a Line>, call: &str, (against, name): (usize, &str), most: f64) {
+    let of_call = lines.into_iter().filter(|line| line.call == call);
+    let ratios: Vec<f64> = of_call.map(|line| line.ratio(against)).collect();
+    assert!(!ratios.is_empty());
+    let reached = if ratios.iter().all(|ratio| *ratio <= most) { "reached" } else { "NOT reached" };
+    let ratios: Vec<String> = ratios.iter().map(|ratio| format!("{ratio:.2}")).collect();
+    println!("- {call} at most {most} × {name}: {}, {reached}", ratios.join(", "));
+}
+
+const LISTS: (usize, &str) = (1, "(a)");
+const TABLES: (usize, &str) = (2, "(b)");
 
 fn main() {
     let messages = 8 * (ROUNDS + 2);
@@ -364,14 +437,22 @@ fn main() {
     sort(&mut lines);
     println!("Microseconds for one call, medians of {ROUNDS} rounds in which the programs take turns.\n");
     print_lines(&lines);
+    let sizes = [(50, 15, 375), (100, 30, 1500), (200, 60, 3000), (200, 60, 6000), (200, 60, 12000)];
+    let cases = sizes.map(|(operators, rides, pairs)| Case::new(operators, rides, pairs, messages));
+    print_halves(&cases);
     println!("At 6,000 pairs:\n");
-    print_goal(&lines, "build", 1, "(a)", 0.2);
-    print_goal(&lines, "message", 1, "(a)", 0.2);
-    print_goal(&lines, "query", 2, "a Rust loop", 1.15);
+    let at_6000 = || lines.iter().filter(|line| line.pairs == 6000);
+    print_goal(at_6000(), "build", LISTS, 0.2);
+    print_goal(at_6000(), "message", LISTS, 0.2);
+    print_goal(at_6000(), "query", (2, "a Rust loop"), 1.15);
+    println!("\nAt 3,000, 6,000 and 12,000 pairs:\n");
+    print_goal(&lines, "peel", LISTS, 0.5);
+    print_goal(&lines, "peel", TABLES, 1.1);
+    print_goal(&lines, covers::HALF[0], LISTS, 0.35);
+    print_goal(&lines, covers::HALF[1], LISTS, 0.1);
     println!();
     print_bursts();
-    let sizes = [(50, 15, 375), (100, 30, 1500), (200, 60, 3000), (200, 60, 6000), (200, 60, 12000)];
-    previews::print(&sizes.map(|(operators, rides, pairs)| Case::new(operators, rides, pairs, messages)));
+    previews::print(&cases);
     println!("Growth, with half of all pairs:\n");
     let mut lines = Vec::new();
     for (operators, rides) in [(50, 15), (100, 30), (200, 60)] {
@@ -379,6 +460,9 @@ fn main() {
     }
     sort(&mut lines);
     print_lines(&lines);
+    println!("At 50 × 15, 100 × 30 and 200 × 60:\n");
+    print_goal(&lines, "peel", TABLES, 1.1);
+    println!();
     println!("Memory at 200 × 60:\n");
     eprintln!("measures stack and lent memory");
     memory::print();

@@ -1,6 +1,11 @@
 //! One call on the library and on the reference, from equal memory: the answers and every lent word are compared.
 
+mod covers;
+
+pub use covers::{CoverTotals, LimitList, PairTable};
+
 use crate::numbers::Numbers;
+use covers::CoverRegions;
 use differential::guarded::{End, Region};
 use differential::Library;
 use reference::frames::{Board, Reference};
@@ -143,6 +148,7 @@ pub struct Totals {
     pub words: u64,
     pub largest: u64,
     pub deliveries: u64,
+    pub covers: CoverTotals,
     pub differences: u64,
 }
 
@@ -198,6 +204,14 @@ impl Totals {
 
     fn same_words<T: PartialEq + Debug>(&mut self, call: &str, part: &str, library: &[T], reference: &[T]) {
         self.words += reference.len() as u64;
+        self.same_places(call, part, library, reference);
+    }
+
+    /// The same without a count. Most parts are equal, which is told soonest as a whole.
+    fn same_places<T: PartialEq + Debug>(&mut self, call: &str, part: &str, library: &[T], reference: &[T]) {
+        if library == reference {
+            return;
+        }
         if let Some(place) = (0..reference.len()).find(|&place| library[place] != reference[place]) {
             let (found, expected) = (&library[place], &reference[place]);
             self.differ(&format!("{call}, {part} at {place}: library {found:?}, reference {expected:?}"));
@@ -240,13 +254,15 @@ impl Totals {
 pub struct Compared<B> {
     library: B,
     regions: Regions,
+    cover_regions: CoverRegions,
     ends: Numbers,
     pub totals: Totals,
 }
 
 impl<B: Library> Compared<B> {
     pub fn new(library: B, seed: u64) -> Compared<B> {
-        Compared { library, regions: Regions::new(), ends: Numbers::new(!seed), totals: Totals::default() }
+        let (regions, cover_regions) = (Regions::new(), CoverRegions::new());
+        Compared { library, regions, cover_regions, ends: Numbers::new(!seed), totals: Totals::default() }
     }
 
     fn check_filled(&mut self) {
@@ -256,7 +272,7 @@ impl<B: Library> Compared<B> {
     pub fn build(&mut self, lent: &mut Lent, start: u32) -> u16 {
         let before = lent.parts.clone();
         let expected = Reference.build(lent.head, &mut lent.parts.lend(), start);
-        let Compared { library, regions, ends, totals } = self;
+        let Compared { library, regions, ends, totals, .. } = self;
         let mut parts = lend_parts(&mut regions.parts, &before, ends);
         let found = library.build(lent.head, &mut parts, start);
         totals.builds += 1;
@@ -270,7 +286,7 @@ impl<B: Library> Compared<B> {
     pub fn query(&mut self, lent: &Lent, alpha: u16, beta: u16, marks: &mut [u16]) -> Counts {
         let (before, head, words) = (marks.to_vec(), lent.head, &lent.parts);
         let expected = Reference.query(head, &words.index, &words.presence, alpha, beta, marks);
-        let Compared { library, regions, ends, totals } = self;
+        let Compared { library, regions, ends, totals, .. } = self;
         let index = regions.parts.index.lend(&words.index, end(ends));
         let presence = regions.parts.presence.lend(&words.presence, end(ends));
         let left = regions.marks.lend_mut(&before, end(ends));
@@ -291,7 +307,7 @@ impl<B: Library> Compared<B> {
     pub fn peel(&mut self, lent: &Lent, marks: &mut [u16], alpha: u16, beta: u16, steps: u16) -> Peeled {
         let (before, head, words) = (marks.to_vec(), lent.head, &lent.parts);
         let expected = Reference.peel(head, &words.operators, &words.rides, &words.presence, marks, alpha, beta, steps);
-        let Compared { library, regions, ends, totals } = self;
+        let Compared { library, regions, ends, totals, .. } = self;
         let operators = regions.parts.operators.lend(&words.operators, end(ends));
         let rides = regions.parts.rides.lend(&words.rides, end(ends));
         let presence = regions.parts.presence.lend(&words.presence, end(ends));
@@ -316,7 +332,7 @@ impl<B: Library> Compared<B> {
     pub fn message(&mut self, lent: &mut Lent, one: Message) -> Answer {
         let before = lent.clone();
         let expected = Reference.message(&mut lent.head, &mut lent.parts.lend(), one);
-        let Compared { library, regions, ends, totals } = self;
+        let Compared { library, regions, ends, totals, .. } = self;
         let head = regions.head.lend_mut(&[before.head], end(ends));
         let mut parts = lend_parts(&mut regions.parts, &before.parts, ends);
         let found = library.message(&mut head[0], &mut parts, one);
@@ -333,7 +349,7 @@ impl<B: Library> Compared<B> {
     pub fn messages(&mut self, lent: &mut Lent, list: &[Message], answers: &mut [u16]) -> u16 {
         let (before, answers_before) = (lent.clone(), answers.to_vec());
         let expected = Reference.messages(&mut lent.head, &mut lent.parts.lend(), list, answers);
-        let Compared { library, regions, ends, totals } = self;
+        let Compared { library, regions, ends, totals, .. } = self;
         let head = regions.head.lend_mut(&[before.head], end(ends));
         let mut parts = lend_parts(&mut regions.parts, &before.parts, ends);
         let messages = regions.messages.lend(list, end(ends));
@@ -357,7 +373,7 @@ impl<B: Library> Compared<B> {
     pub fn preview(&mut self, lent: &Lent, one: Message, spare: &mut Lent) -> Answer {
         let before = spare.clone();
         let expected = reference::preview(lent.head, &lent.parts.view(), one, &mut spare.head, &mut spare.parts.lend());
-        let Compared { library, regions, ends, totals } = self;
+        let Compared { library, regions, ends, totals, .. } = self;
         let parts = view_parts(&mut regions.parts, &lent.parts, ends);
         let head = regions.head.lend_mut(&[before.head], end(ends));
         let mut left = lend_parts(&mut regions.spare, &before.parts, ends);

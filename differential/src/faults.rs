@@ -1,10 +1,10 @@
 //! The comparison itself is tried: between the reference and itself it finds nothing, and it finds each of these faults,
 //! or the fault stops the program.
 
-use crate::compared::{Compared, Totals};
+use crate::compared::{Compared, CoverTotals, Totals};
 use crate::faulty::Faulty;
 use crate::numbers::Numbers;
-use crate::sequences::{delivery, sequence, Size};
+use crate::sequences::{covers, delivery, sequence, Size};
 use reference::{GRANT, OPERATOR_OFF, OPERATOR_ON, RIDE_IN, RIDE_OUT, WITHDRAWAL};
 use std::os::unix::process::ExitStatusExt;
 use std::process::Command;
@@ -180,6 +180,85 @@ pub enum Fault {
     PreviewWritesPastSpare,
     /// A byte of a part of the board is written.
     PreviewWrites(usize),
+    /// A cover from pair arrays goes wrong.
+    PairCover(Wrong),
+    /// A cover over tables goes wrong.
+    TableCover(Wrong),
+    /// The filling of tables goes wrong.
+    Tables(WrongTables),
+}
+
+impl Fault {
+    fn is_of_covers(self) -> bool {
+        matches!(self, Fault::PairCover(_) | Fault::TableCover(_) | Fault::Tables(_))
+    }
+}
+
+/// How a cover under a list of limits goes wrong.
+#[derive(Clone, Copy, Debug, PartialEq, Eq)]
+pub enum Wrong {
+    /// The limit at the next place is read.
+    LimitNextPlace,
+    /// The limit of a ride is that of the operator with its number.
+    LimitOfOperator,
+    /// Of a limit the low byte is read.
+    LimitLowByte,
+    /// 0 is read as 1.
+    LimitZeroIsOne,
+    /// 65535 is no limit.
+    LimitMostIsNone,
+    /// Whoever has just its limit falls short.
+    LimitNotEnough,
+    /// Rides are not dropped.
+    RidesKept,
+    /// Rides and operators are swept once, by the neighbours that are marked then.
+    SweptOnce,
+    /// Whoever isn't here is dropped, whatever its limit.
+    NotHereDropped,
+    /// Whoever isn't here is kept, whatever its limit.
+    NotHereKept,
+    /// Pairs count, here or not.
+    NotHereCounts,
+    /// Whoever came in without a mark gets none.
+    MarksAsCame,
+    /// The marks of those in the cover are left as they came.
+    MarksLeft,
+    /// The marks past the nodes are cleared too.
+    MarksPastNodes,
+    /// A byte beside the marks is written.
+    WritesBeside,
+    /// A byte past the end of the marks is written.
+    WritesPast,
+    /// A byte of a part that is lent to be read is written.
+    Writes(CoverPart),
+}
+
+/// How the filling of tables goes wrong.
+#[derive(Clone, Copy, Debug, PartialEq, Eq)]
+pub enum WrongTables {
+    /// The last pair is missing in the table by ride.
+    PairMissing,
+    /// Rows of the table by operator are as wide as there are rides.
+    RowsOfRides,
+    /// Pairs count, here or not.
+    NotHereCounts,
+    /// The degrees are those of all pairs, here or not.
+    DegreesOfAll,
+    /// A byte beside the table by ride is written.
+    WritesBeside,
+    /// A byte of a part that is lent to be read is written.
+    Writes(CoverPart),
+}
+
+/// What a cover, or the filling of tables, is lent to read.
+#[derive(Clone, Copy, Debug, PartialEq, Eq)]
+pub enum CoverPart {
+    Operators,
+    Rides,
+    Here,
+    ByOperator,
+    ByRide,
+    Limits,
 }
 
 /// How words of presence are read where it isn't as they should be.
@@ -340,10 +419,42 @@ const FAULTS: &[Fault] = &[
     Fault::PreviewWritesBeside(PRESENCE_STAMPS),
     Fault::PreviewWritesBeside(PRESENCE_REVISIONS),
     Fault::PreviewWritesBeside(PRESENCE),
+    Fault::PairCover(Wrong::LimitNextPlace),
+    Fault::PairCover(Wrong::LimitOfOperator),
+    Fault::PairCover(Wrong::LimitLowByte),
+    Fault::PairCover(Wrong::LimitZeroIsOne),
+    Fault::PairCover(Wrong::LimitMostIsNone),
+    Fault::PairCover(Wrong::LimitNotEnough),
+    Fault::PairCover(Wrong::RidesKept),
+    Fault::PairCover(Wrong::SweptOnce),
+    Fault::PairCover(Wrong::NotHereDropped),
+    Fault::PairCover(Wrong::NotHereKept),
+    Fault::PairCover(Wrong::NotHereCounts),
+    Fault::PairCover(Wrong::MarksAsCame),
+    Fault::PairCover(Wrong::MarksLeft),
+    Fault::PairCover(Wrong::MarksPastNodes),
+    Fault::PairCover(Wrong::WritesBeside),
+    Fault::TableCover(Wrong::LimitNextPlace),
+    Fault::TableCover(Wrong::LimitOfOperator),
+    Fault::TableCover(Wrong::LimitLowByte),
+    Fault::TableCover(Wrong::LimitZeroIsOne),
+    Fault::TableCover(Wrong::LimitMostIsNone),
+    Fault::TableCover(Wrong::LimitNotEnough),
+    Fault::TableCover(Wrong::RidesKept),
+    Fault::TableCover(Wrong::SweptOnce),
+    Fault::TableCover(Wrong::MarksAsCame),
+    Fault::TableCover(Wrong::MarksLeft),
+    Fault::TableCover(Wrong::MarksPastNodes),
+    Fault::TableCover(Wrong::WritesBeside),
+    Fault::Tables(WrongTables::PairMissing),
+    Fault::Tables(WrongTables::RowsOfRides),
+    Fault::Tables(WrongTables::NotHereCounts),
+    Fault::Tables(WrongTables::DegreesOfAll),
+    Fault::Tables(WrongTables::WritesBeside),
 ];
 
 /// Faults that stop the program.
-const STOPS: [Fault; 9] = [
+const STOPS: &[Fault] = &[
     Fault::PreviewWritesPastSpare,
     Fault::PreviewWrites(OPERATORS),
     Fault::PreviewWrites(RIDES),
@@ -353,15 +464,31 @@ const STOPS: [Fault; 9] = [
     Fault::PreviewWrites(PRESENCE_STAMPS),
     Fault::PreviewWrites(PRESENCE_REVISIONS),
     Fault::PreviewWrites(PRESENCE),
+    Fault::PairCover(Wrong::WritesPast),
+    Fault::PairCover(Wrong::Writes(CoverPart::Operators)),
+    Fault::PairCover(Wrong::Writes(CoverPart::Rides)),
+    Fault::PairCover(Wrong::Writes(CoverPart::Here)),
+    Fault::PairCover(Wrong::Writes(CoverPart::Limits)),
+    Fault::TableCover(Wrong::WritesPast),
+    Fault::TableCover(Wrong::Writes(CoverPart::ByOperator)),
+    Fault::TableCover(Wrong::Writes(CoverPart::ByRide)),
+    Fault::TableCover(Wrong::Writes(CoverPart::Limits)),
+    Fault::Tables(WrongTables::Writes(CoverPart::Operators)),
+    Fault::Tables(WrongTables::Writes(CoverPart::Rides)),
+    Fault::Tables(WrongTables::Writes(CoverPart::Here)),
 ];
 
-/// What sequences and deliveries find, until it is enough.
-fn found(fault: Fault, enough: fn(&Totals) -> bool) -> Totals {
+/// What sequences and deliveries find, or covers, until it is enough.
+fn found(fault: Fault, are_covers: bool, enough: fn(&Totals) -> bool) -> Totals {
     let mut numbers = Numbers::new(1);
     let mut compared = Compared::new(Faulty(fault), 1);
     for _ in 0..600 {
-        sequence(&mut compared, &mut numbers, Size::Small);
-        delivery(&mut compared, &mut numbers, Size::Small);
+        if are_covers {
+            covers(&mut compared, &mut numbers, Size::Small);
+        } else {
+            sequence(&mut compared, &mut numbers, Size::Small);
+            delivery(&mut compared, &mut numbers, Size::Small);
+        }
         if enough(&compared.totals) {
             break;
         }
@@ -374,7 +501,7 @@ fn found(fault: Fault, enough: fn(&Totals) -> bool) -> Totals {
 /// out.
 #[test]
 fn the_reference_does_not_differ_from_itself() {
-    let totals = found(Fault::None, |totals| totals.deliveries == 200);
+    let totals = found(Fault::None, false, |totals| totals.deliveries == 200);
     assert_eq!(totals.differences, 0);
     assert!(totals.preview_numbers.keys().copied().eq((0..=10).chain([14, 15])), "{:?}", totals.preview_numbers);
     assert!(totals.sent > 0 && totals.exchanged > 0, "{} {}", totals.sent, totals.exchanged);
@@ -382,10 +509,20 @@ fn the_reference_does_not_differ_from_itself() {
     assert!(totals.absent > 0);
 }
 
+/// Some nodes are dropped and some are kept.
+#[test]
+fn covers_of_the_reference_do_not_differ() {
+    let totals = found(Fault::None, true, |_| false);
+    assert_eq!(totals.differences, 0);
+    let CoverTotals { from_pairs, over_tables, tables, dropped, kept, .. } = totals.covers;
+    assert!(tables == 600 && over_tables > tables && from_pairs > tables, "{over_tables} {from_pairs}");
+    assert!(dropped > 1000 && kept > 1000, "{dropped} {kept}");
+}
+
 #[test]
 fn each_fault_is_found() {
     for fault in FAULTS {
-        let totals = found(*fault, |totals| totals.differences > 0);
+        let totals = found(*fault, fault.is_of_covers(), |totals| totals.differences > 0);
         assert!(totals.differences > 0, "{fault:?} is not found");
     }
 }
@@ -395,8 +532,8 @@ fn each_fault_is_found() {
 fn each_write_outside_stops_the_program() {
     let name = "faults::each_write_outside_stops_the_program";
     if let Ok(wanted) = std::env::var("FAULT") {
-        let fault = STOPS.into_iter().find(|fault| format!("{fault:?}") == wanted).unwrap();
-        found(fault, |_| false);
+        let fault = STOPS.iter().find(|fault| format!("{fault:?}") == wanted).unwrap();
+        found(*fault, fault.is_of_covers(), |_| false);
         return;
     }
     const SEGMENTATION_FAULT: i32 = 11;

@@ -1,5 +1,7 @@
 //! The reference with one of the faults of `faults.rs`.
 
+mod covers;
+
 use crate::faults::{Fault, Reading};
 use crate::faults::{INDEX, OPERATORS, PRESENCE, PRESENCE_REVISIONS, PRESENCE_STAMPS, REVISIONS, RIDES, STAMPS};
 use differential::guarded::PAGE;
@@ -112,11 +114,12 @@ fn view<'a>(parts: &'a Slices) -> Views<'a> {
     parts.each_ref().map(|part| &**part, |part| &**part)
 }
 
+fn bytes<T>(part: &[T]) -> &[u8] {
+    unsafe { std::slice::from_raw_parts(part.as_ptr().cast(), size_of_val(part)) }
+}
+
 /// The bytes of one of the parts.
 fn bytes_of(parts: Views<'_>, number: usize) -> &[u8] {
-    fn bytes<T>(part: &[T]) -> &[u8] {
-        unsafe { std::slice::from_raw_parts(part.as_ptr().cast(), size_of_val(part)) }
-    }
     parts.map(bytes, bytes).list()[number]
 }
 

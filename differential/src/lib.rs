@@ -1,8 +1,11 @@
-//! The proved library's calls, as the static library exports them, behind the reference's trait and one for previews.
+//! The proved library's calls, as the static library exports them, behind the reference's trait and one for previews, and
+//! the functions of `libkernel.a` behind one for covers under limits.
 
 pub mod guarded;
+pub mod kernel;
 
 use board::exported;
+use kernel::Degrees;
 use reference::frames::Board;
 use reference::{Answer, Counts, Head, Message, Parts, Peeled, Slices, Views};
 
@@ -16,6 +19,42 @@ pub trait Library: Board {
         spare_head: &mut Head,
         spare: &mut Slices,
     ) -> Answer;
+}
+
+/// The cover under a list of limits, which is no call of the board. `kernel` says what a caller sees to.
+pub trait Kernel {
+    /// Fills both tables, lent as zeros, and gives the degrees.
+    fn tables(
+        &mut self,
+        head: Head,
+        operators: &[u16],
+        rides: &[u16],
+        here: &[u8],
+        by_operator: &mut [u8],
+        by_ride: &mut [u8],
+    ) -> Degrees;
+
+    /// Over tables.
+    fn cover(
+        &mut self,
+        head: Head,
+        by_operator: &[u8],
+        by_ride: &[u8],
+        degrees: Degrees,
+        limits: &[u16],
+        marks: &mut [u16],
+    );
+
+    /// From pair arrays.
+    fn pair_cover(
+        &mut self,
+        head: Head,
+        operators: &[u16],
+        rides: &[u16],
+        here: &[u8],
+        limits: &[u16],
+        marks: &mut [u16],
+    );
 }
 
 fn head_of(head: Head) -> board::Head {
@@ -236,5 +275,44 @@ impl Library for Proved {
             )
         };
         Answer { code: answer.code, differ: answer.differ }
+    }
+}
+
+/// What is required of a caller is what `sequences::covers` gives.
+impl Kernel for Proved {
+    fn tables(
+        &mut self,
+        head: Head,
+        operators: &[u16],
+        rides: &[u16],
+        here: &[u8],
+        by_operator: &mut [u8],
+        by_ride: &mut [u8],
+    ) -> Degrees {
+        unsafe { kernel::tables(head_of(head), operators, rides, here, by_operator, by_ride) }
+    }
+
+    fn cover(
+        &mut self,
+        head: Head,
+        by_operator: &[u8],
+        by_ride: &[u8],
+        degrees: Degrees,
+        limits: &[u16],
+        marks: &mut [u16],
+    ) {
+        unsafe { kernel::cover(head_of(head), by_operator, by_ride, degrees, limits, marks) }
+    }
+
+    fn pair_cover(
+        &mut self,
+        head: Head,
+        operators: &[u16],
+        rides: &[u16],
+        here: &[u8],
+        limits: &[u16],
+        marks: &mut [u16],
+    ) {
+        unsafe { kernel::pair_cover(head_of(head), operators, rides, here, limits, marks) }
     }
 }

@@ -1,4 +1,5 @@
-//! Random sequences of the calls on the library and on the reference, for so many seconds, from a seed.
+//! Random sequences of the calls, and covers under lists of limits, on the library and on the reference, for so many seconds,
+//! from a seed.
 
 mod compared;
 #[cfg(test)]
@@ -11,7 +12,7 @@ mod sequences;
 use compared::{Compared, Totals};
 use differential::Proved;
 use numbers::Numbers;
-use sequences::{delivery, sequence, Size};
+use sequences::{covers, delivery, sequence, Size};
 use std::time::{Duration, Instant, SystemTime, UNIX_EPOCH};
 
 fn print_totals(totals: &Totals) {
@@ -34,8 +35,24 @@ fn print_totals(totals: &Totals) {
     println!("  answers of previews: {:?}", totals.preview_numbers);
     println!("  answers of messages of lists: {:?}", totals.listed_numbers);
     println!("message sets delivered in three orders: {}", totals.deliveries);
+    println!("covers under a list of limits compared: {}", totals.covers.compared());
+    println!(
+        "  from pair arrays {}, over tables {}, which were filled {} times",
+        totals.covers.from_pairs, totals.covers.over_tables, totals.covers.tables
+    );
+    println!("  on boards of 200 × 60: {}", totals.covers.largest);
+    println!("  nodes dropped {}, kept {}", totals.covers.dropped, totals.covers.kept);
     println!("lent words compared: {}", totals.words);
     println!("differences: {}", totals.differences);
+}
+
+/// Covers are compared on four boards after each sequence or delivery, most of them small.
+fn cover_sizes(numbers: &mut Numbers) -> [Size; 4] {
+    [(); 4].map(|_| match numbers.below(100) {
+        0 => Size::Large,
+        1..=15 => Size::Middle,
+        _ => Size::Small,
+    })
 }
 
 fn main() {
@@ -57,6 +74,9 @@ fn main() {
             22..=26 => delivery(&mut compared, &mut numbers, Size::Middle),
             27..=50 => delivery(&mut compared, &mut numbers, Size::Small),
             _ => sequence(&mut compared, &mut numbers, Size::Small),
+        }
+        for size in cover_sizes(&mut numbers) {
+            covers(&mut compared, &mut numbers, size);
         }
         if Duration::from_secs(10) <= told.elapsed() {
             let totals = &compared.totals;

@@ -1,4 +1,9 @@
-//! Random sequences of calls, with damaged input among them, and deliveries of the same messages in several orders.
+//! Random sequences of calls, with damaged input among them, deliveries of the same messages in several orders, and covers
+//! under lists of limits.
+
+mod covers;
+
+pub use covers::covers;
 
 use crate::compared::{Compared, Lent, LIST_MOST, MARKS_MOST, MOST};
 use crate::numbers::Numbers;

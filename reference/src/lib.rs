@@ -467,9 +467,28 @@ pub fn peel(
         return Peeled { code, settled: 0, steps: 0 };
     }
     let counting = Counting::new(head, &listed(head, operators, rides), presence);
+    let limits = [vec![alpha; head.operators as usize], vec![beta; head.rides as usize]].concat();
+    drop_short(head, &counting, &limits, marks, steps)
+}
+
+/// The marks of the cover under a list of limits, one for each operator and then for each ride: from all ones, whoever
+/// has fewer marked neighbours than its limit is dropped, again and again, until nobody falls short. A pair counts if both
+/// of its nodes are here, those with a byte of 1. Whoever isn't here has no neighbour, and is dropped if its limit is above
+/// 0. The pair arrays are accepted ones.
+pub fn cover_under_limits(head: Head, operators: &[u16], rides: &[u16], here: &[u8], limits: &[u16]) -> Vec<u16> {
+    let mut pairs = listed(head, operators, rides);
+    pairs.retain(|&(operator, ride)| here[operator as usize] == 1 && here[head.ride_node(ride)] == 1);
+    let counting = Counting::new(head, &pairs, &vec![PRESENT; head.nodes()]);
+    let mut marks = vec![1; head.nodes()];
+    drop_short(head, &counting, limits, &mut marks, u16::MAX);
+    marks
+}
+
+/// Drops the first who falls short, again and again, in so many steps at most. A limit for each node.
+fn drop_short(head: Head, counting: &Counting, limits: &[u16], marks: &mut [u16], steps: u16) -> Peeled {
     let mut taken = 0;
     loop {
-        match first_short(head, &counting, marks, alpha as usize, beta as usize) {
+        match first_short(head, counting, limits, marks) {
             None => return Peeled { code: 0, settled: 1, steps: taken },
             Some(_) if taken == steps => return Peeled { code: 0, settled: 0, steps: taken },
             Some(place) => marks[place] = 0,
@@ -480,12 +499,12 @@ pub fn peel(
 
 /// The place in the marks of the lowest-numbered marked operator that falls short among the marked rides; if there is
 /// none, of the lowest-numbered marked ride that falls short among the marked operators.
-fn first_short(head: Head, counting: &Counting, marks: &[u16], alpha: usize, beta: usize) -> Option<usize> {
+fn first_short(head: Head, counting: &Counting, limits: &[u16], marks: &[u16]) -> Option<usize> {
     let (n, m) = (head.operators as usize, head.rides as usize);
     let operators = Set::of((0..n).filter(|&o| marks[o] == 1));
     let rides = Set::of((0..m).filter(|&r| marks[n + r] == 1));
-    let operator = operators.numbers().find(|&o| counting.operator_falls_short(o, rides, alpha));
-    let ride = rides.numbers().find(|&r| counting.ride_falls_short(r, operators, beta));
+    let operator = operators.numbers().find(|&o| counting.operator_falls_short(o, rides, limits[o] as usize));
+    let ride = rides.numbers().find(|&r| counting.ride_falls_short(r, operators, limits[n + r] as usize));
     operator.or(ride.map(|r| n + r))
 }
 

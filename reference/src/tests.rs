@@ -171,6 +171,64 @@ fn peels_with_limits_from_0() {
     }
 }
 
+/// Document 01's board: its cover under a list of limits where everybody is here.
+fn under(limits: [u16; 7]) -> Vec<u16> {
+    under_with([1; 7], limits)
+}
+
+/// The same where those with a byte of 1 are here.
+fn under_with(here: [u8; 7], limits: [u16; 7]) -> Vec<u16> {
+    let (operators, rides): (Vec<u16>, Vec<u16>) = PAIRS.into_iter().unzip();
+    cover_under_limits(Head { operators: 4, rides: 3, pairs: 7 }, &operators, &rides, &here, &limits)
+}
+
+#[test]
+fn covers_under_limits() {
+    assert_eq!(under([2; 7]), [1, 1, 0, 0, 1, 1, 0]);
+    assert_eq!(under([0; 7]), [1; 7]);
+    assert_eq!(under([65535; 7]), [0; 7]);
+    // Ride 1 has a limit of its own. It has three operators.
+    assert_eq!(under([0, 0, 0, 0, 0, 3, 0]), [1; 7]);
+    assert_eq!(under([0, 0, 0, 0, 0, 4, 0]), [1, 1, 1, 1, 1, 0, 1]);
+    assert_eq!(under([1, 1, 1, 1, 1, 4, 1]), [1, 1, 1, 1, 1, 0, 1]);
+    // Without it operator 2 has one ride, without him ride 2 one operator, and without that operator 3 none.
+    assert_eq!(under([1, 1, 2, 1, 1, 4, 2]), [1, 1, 0, 0, 1, 0, 0]);
+    // A limit that is never met drops one operator, and whoever needs him.
+    assert_eq!(under([65535, 0, 0, 0, 2, 2, 2]), [0, 1, 1, 1, 0, 1, 1]);
+    assert_eq!(under([65535, 2, 2, 1, 2, 2, 2]), [0; 7]);
+    // 256 is no 0.
+    assert_eq!(under([0, 0, 0, 256, 0, 0, 0]), [1, 1, 1, 0, 1, 1, 1]);
+}
+
+/// Whoever isn't here has no pair, and stays where its limit is 0.
+#[test]
+fn covers_under_limits_of_those_here() {
+    assert_eq!(under_with([0; 7], [0; 7]), [1; 7]);
+    assert_eq!(under_with([0; 7], [1; 7]), [0; 7]);
+    assert_eq!(under_with([0; 7], [0, 1, 0, 1, 0, 1, 65535]), [1, 0, 1, 0, 1, 0, 0]);
+    assert_eq!(under_with([0, 1, 1, 1, 1, 1, 1], [0, 1, 1, 1, 2, 2, 2]), [1, 1, 1, 1, 0, 1, 1]);
+    assert_eq!(under_with([1, 1, 1, 1, 1, 0, 1], [1, 2, 2, 1, 1, 0, 2]), [1, 0, 0, 0, 1, 1, 0]);
+    assert_eq!(cover_under_limits(Head { operators: 0, rides: 0, pairs: 0 }, &[], &[], &[], &[]), [0; 0]);
+}
+
+/// A cover (alpha, beta) is the one under the limits alpha for operators and beta for rides, where those who are off or out
+/// have a limit that nobody meets.
+#[test]
+fn covers_are_under_limits() {
+    for absent in 0..1 << 7 {
+        let mut board = sample(1);
+        let here: [u8; 7] = std::array::from_fn(|node| (absent >> node & 1 == 0) as u8);
+        board.parts.presence[..7].iter_mut().zip(here).for_each(|(word, bit)| *word = bit as u16);
+        for (alpha, beta) in (0..5).flat_map(|alpha| (0..6).map(move |beta| (alpha, beta))) {
+            let limit = |node: usize| if node < 4 { alpha } else { beta };
+            let limits = std::array::from_fn(|node| if here[node] == 1 { limit(node) } else { 65535 });
+            let mut marks = vec![1; 7];
+            assert_eq!(board.peel(&mut marks, alpha, beta, 65535).settled, 1);
+            assert_eq!(under_with(here, limits), marks);
+        }
+    }
+}
+
 #[test]
 fn granted() {
     let mut board = sample(1);

@@ -17,7 +17,7 @@ use Rattle.model.proofs.Peel.{marked-cleared, marked-other, degree-lost-ride, d
 use Rattle.tables.specs.Table.{Tables}
 use Rattle.tables.proofs.Held.{row-length, row-at}
 use Rattle.limits.specs.Limits.{byte-limit}
-use Rattle.drops.specs.Drop.{Remaining, Held, Subtracted, Dropped}
+use Rattle.drops.specs.Drop.{Remaining, Subtracted, Dropped}
 
 -- the first i places of a row are subtracted
 pub record Subtracting (old : List ℕ) (from : ℕ) (row : List ℕ) (i : ℕ) (new : List ℕ) : Type 0 where

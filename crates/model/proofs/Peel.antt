@@ -8,12 +8,12 @@ use native.Mathlib.Omega.{arith}
 use native.Mathlib.Decide.{decLt, decLe, ℕ-discrete}
 use lib.Dec.{T, ltb, eqb, ltb→lt, lt→ltb, T-not, not-T}
 use borrow.Author.Tests.{lt-ltb, le-ltb}
-use lib.ListN.{length, getD, set, take, drop, replicate, take-append-drop, getD-replicate, List·getD-eq-default, List·getD-append, length-set}
-use lib.Seq.{getD-set-same, getD-set-other, set-out, set-append-left, drop-set-lt, length-take-le, take-at}
+use lib.ListN.{length, getD, set, drop, replicate, getD-replicate, List·getD-eq-default, List·getD-append, length-set}
+use lib.Seq.{getD-set-same, getD-set-other, set-out, drop-set-lt}
 use Rattle.model.specs.Count.{bit, count, some, lowest}
 use Rattle.model.specs.Graph.{Graph, nodes, degree, Inside, Meets, Largest, marked, short, settled, removals, without, peel}
 use Rattle.model.specs.Demand.{members, AllOnes, LowestShort, Dropped, PeelLaws}
-use Rattle.model.proofs.Count.{by-test, test-true, test-false, test-ext, and-left, and-right, and-both, count-all, count-mono, count-but-one, count-less, some-holds, some-witness, some-ext, count-ext, count-without, lowest-least, lowest-passes, lowest-lt, lowest-ext}
+use Rattle.model.proofs.Count.{by-test, test-true, test-false, test-ext, and-left, and-right, and-both, count-all, count-mono, count-but-one, count-less, some-holds, some-witness, some-ext, count-ext, count-without, lowest-least, lowest-passes, lowest-lt}
 
 -- ---- degree
 
@@ -380,59 +380,6 @@ module _ (g : Graph) (limit : ℕ → ℕ) (t : List ℕ) where
   pub settled-append : (s : List ℕ) → nodes g ≤ length s → settled g limit (s ++ t) ≡ settled g limit s
   unfolding settled
   settled-append s h = ap not (some-ext (short g limit (s ++ t)) (short g limit s) (nodes g) (short-append s h))
-
-  pub peel-append : (f : ℕ) (s : List ℕ) → nodes g ≤ length s → Leaves g limit f (s ++ t) (length (removals g limit f s)) (peel g limit f s ++ t)
-  unfolding removals without peel
-  peel-append zero s h = (refl, refl)
-  peel-append (suc f) s h =
-      by-test (settled g limit s)
-      (λ k.
-      let p = peel-settled g limit (suc f) (s ++ t) (subst T (sym (settled-append s h)) k) in
-      let q = peel-settled g limit (suc f) s k in
-      ((cc), (cc)))
-      (λ n.
-      let x : ℕ = lowest (nodes g) (short g limit s) in
-      let l = lowest-ext (short g limit (s ++ t)) (short g limit s) (nodes g) (short-append s h) in
-      let p = peel-step g limit f (s ++ t) x l (λ k. n (subst T (settled-append s h) k)) in
-      let q = peel-step g limit f s x refl n in
-      let e = set-append-left s t x 0 (omega (arith, unsettled-lowest g limit s n .node)) in
-      let r = peel-append f (set s x 0) (omega (arith, length-set s x 0)) in
-      ((cc), (cc)))
-
--- a peel of marks that go on otherwise past the nodes has the same steps and outcome, and leaves the same marks of the nodes
-module _ (g : Graph) (limit : ℕ → ℕ) (f : ℕ) (s t : List ℕ) (h : nodes g ≤ length s) where
-  abbrev front : List ℕ
-  front = take (nodes g) s
-
-  length-front : length front ≡ nodes g
-  length-front = length-take-le (nodes g) s h
-
-  -- the peel of the front, with t behind it, and with what s has behind it
-  other : Leaves g limit f (front ++ t) (length (removals g limit f front)) (peel g limit f front ++ t)
-  other = peel-append g limit t f front (omega (arith, length-front))
-
-  whole : Leaves g limit f s (length (removals g limit f front)) (peel g limit f front ++ drop (nodes g) s)
-  whole =
-      subst
-      (λ (z : List ℕ). Leaves g limit f z (length (removals g limit f front)) (peel g limit f front ++ drop (nodes g) s))
-      (take-append-drop (nodes g) s)
-      (peel-append g limit (drop (nodes g) s) f front (omega (arith, length-front)))
-
-  pub steps-past : length (removals g limit f (front ++ t)) ≡ length (removals g limit f s)
-  steps-past = other .0 ∙ sym (whole .0)
-
-  pub settled-past : settled g limit (peel g limit f (front ++ t)) ≡ settled g limit (peel g limit f s)
-  settled-past =
-      let l : nodes g ≤ length (peel g limit f front) = omega (arith, length-front, length-peel g limit f front) in
-      ap (settled g limit) (other .1) ∙
-      settled-append g limit t (peel g limit f front) l ∙
-      sym (ap (settled g limit) (whole .1) ∙ settled-append g limit (drop (nodes g) s) (peel g limit f front) l)
-
-  pub peel-past : take (nodes g) (peel g limit f (front ++ t)) ++ drop (nodes g) s ≡ peel g limit f s
-  peel-past =
-      ap (λ (z : List ℕ). take (nodes g) z ++ drop (nodes g) s) (other .1) ∙
-      ap (λ (z : List ℕ). z ++ drop (nodes g) s) (take-at (peel g limit f front) t (nodes g) (length-peel g limit f front ∙ length-front)) ∙
-      sym (whole .1)
 
 -- ---- from all ones, and the laws together
 

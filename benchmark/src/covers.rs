@@ -1,0 +1,47 @@
+//! Covers under a list of limits, from pairs and over tables, beside (a).
+
+use crate::kernel::{self, TABLE};
+use crate::{lists, measure, Case, Line};
+use board::{Board, PRESENT};
+use std::hint::black_box;
+
+/// The lines of a cover from pairs and of one over tables, under limits that drop about half, and under those that drop
+/// everybody.
+pub const HALF: [&str; 2] = ["cover under limits, from pairs", "cover under limits, over tables"];
+pub const EVERYBODY: [&str; 2] =
+    ["cover under limits, from pairs, everybody dropped", "cover under limits, over tables, everybody dropped"];
+
+/// Both lines, under alpha for each operator and beta for each ride as a list. The tables are filled before; (a) reads the
+/// pairs, and its times are the same for both.
+pub fn lines(case: &Case, board: &Board, (alpha, beta): (u16, u16), calls: [&'static str; 2]) -> [Line; 2] {
+    calls.iter().for_each(|call| case.tell(call));
+    let (head, words) = (board.head(), board.words());
+    assert!(words.presence.iter().all(|word| *word == PRESENT));
+    let (operators, rides, here) = (words.operators, words.rides, vec![1; case.nodes()]);
+    let limits = case.limit_list((alpha, beta));
+    let (mut by_operator, mut by_ride) = (vec![0; TABLE], vec![0; TABLE]);
+    // The board's pair arrays are accepted, and there are as many bytes, limits and marks as nodes.
+    let degrees = unsafe { kernel::tables(head, operators, rides, &here, &mut by_operator, &mut by_ride) };
+    let (mut from_pairs, mut over_tables) = (vec![2; case.nodes()], vec![2; case.nodes()]);
+    let mut listed = None;
+    let [pairs, tables, plain] = measure(
+        10,
+        &mut [
+            &mut || unsafe {
+                kernel::pair_cover(head, operators, rides, &here, black_box(&limits), black_box(&mut from_pairs))
+            },
+            &mut || unsafe {
+                let (limits, marks) = (black_box(&limits), black_box(&mut over_tables));
+                kernel::cover(head, &by_operator, &by_ride, degrees, limits, marks)
+            },
+            &mut || {
+                let (presence, pairs) = (black_box(words.presence), black_box(&case.pairs));
+                listed = Some(lists::peel(case.operators as usize, presence, pairs, black_box(&limits)).0);
+            },
+        ],
+    );
+    let mut asked = vec![2; case.nodes()];
+    board.query(alpha, beta, &mut asked).unwrap();
+    assert!(from_pairs == asked && over_tables == asked && listed == Some(asked));
+    [case.line(calls[0], [pairs, plain.clone(), Vec::new()]), case.line(calls[1], [tables, plain, Vec::new()])]
+}
