@@ -70,7 +70,7 @@ extern "C" {
 /* The version of this header (docs/CHANGELOG.md), as a number to compare: 1.2.3 is 10203. */
 #define BOARD_VERSION_MAJOR 3
 #define BOARD_VERSION_MINOR 0
-#define BOARD_VERSION_PATCH 1
+#define BOARD_VERSION_PATCH 2
 #define BOARD_VERSION (BOARD_VERSION_MAJOR * 10000 + BOARD_VERSION_MINOR * 100 + BOARD_VERSION_PATCH)
 
 /* Sizes */

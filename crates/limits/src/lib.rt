@@ -1,4 +1,4 @@
-// The limits of a peel: one word for each node, as marks lie, operators first and then rides.
+// The limits of a peel or a cover: one word for each node, as marks lie, operators first and then rides; and the limits of those marked in bytes.
 ghost use mathlib.Core.Path.{_≡_};
 ghost use mathlib.Core.Bool.{true, false};
 ghost use Prim.Native.Nat.{ℕ, _≤_, _<_, min};

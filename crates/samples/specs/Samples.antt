@@ -1,11 +1,12 @@
 -- Document 01, Samples on that board: those with a star, one table. Each row has what the definitions give, and what document 01 says.
--- The last row, "Built at stamp 5", has no star. Further tables have limits of 0, previews, revisions and presence: document 02, 2.1 to 2.4.
+-- The last row, "Built at stamp 5", has no star. Further tables have limits of 0, previews, revisions and presence: document 02, 2.1 to 2.4;
+-- and lists of limits.
 use mathlib.Core.Path.{_≡_}
 use mathlib.Core.List.{List, [], _∷_, _++_}
 use Prim.Native.Nat.{ℕ, _-_, _*_}
 use lib.ListN.{getD, take, drop, replicate}
 use Rattle.model.specs.declared.Message.{Message}
-use Rattle.model.specs.Graph.{Graph, limits, removals, cover, row}
+use Rattle.model.specs.Graph.{Graph, limits, removals, cover-under, cover, row}
 use Rattle.model.specs.Layout.{Operators, Rides, Stamps, Revisions, Index, PresenceStamps, PresenceRevisions, Presence, Board, mark-places, lent, listed-graph}
 use Rattle.model.specs.Calls.{PeelOutcome, board-build, board-query, board-peel}
 use Rattle.model.specs.Message.{MessageOutcome, board-message, board-preview}
@@ -312,6 +313,21 @@ presence-samples =
           (of-kind 4 2 1 0 ∷ record { kind = 4; operator = 2; ride = 1; revision = 256; stamp = 6 } ∷ off-2 ∷ of-kind 4 2 1 5 ∷ []),
       9 ∷ 0 ∷ 14 ∷ 0 ∷ 0 ∷ 8 ∷ 15 ∷ 0 ∷ [],
     ) ∷
+    []
+
+-- its cover under a list of limits, operators first
+abbrev under : List ℕ → List ℕ
+under list = cover-under board (λ x. getD list x 0)
+
+-- covers under a list of limits, by hand: ride 0 has limit 2 where the others have 3; ride 1 has 4 where they have 2; operator 3, whose limit is 0, keeps ride 2 and
+-- operator 2 in cover (2,2); a limit of 65535 drops operator 0 alone
+unfoldable pub limit-samples : List (List ℕ × List ℕ)
+limit-samples =
+    (under (1 ∷ 1 ∷ 1 ∷ 1 ∷ 2 ∷ 3 ∷ 3 ∷ []), 1 ∷ 1 ∷ 1 ∷ 0 ∷ 1 ∷ 1 ∷ 0 ∷ []) ∷
+    (under (1 ∷ 1 ∷ 1 ∷ 1 ∷ 2 ∷ 4 ∷ 2 ∷ []), 1 ∷ 1 ∷ 1 ∷ 1 ∷ 1 ∷ 0 ∷ 1 ∷ []) ∷
+    (under (2 ∷ 2 ∷ 2 ∷ 2 ∷ 2 ∷ 2 ∷ 2 ∷ []), 1 ∷ 1 ∷ 0 ∷ 0 ∷ 1 ∷ 1 ∷ 0 ∷ []) ∷
+    (under (2 ∷ 2 ∷ 2 ∷ 0 ∷ 2 ∷ 2 ∷ 2 ∷ []), 1 ∷ 1 ∷ 1 ∷ 1 ∷ 1 ∷ 1 ∷ 1 ∷ []) ∷
+    (under (65535 ∷ 0 ∷ 0 ∷ 0 ∷ 0 ∷ 0 ∷ 0 ∷ []), 0 ∷ 1 ∷ 1 ∷ 1 ∷ 1 ∷ 1 ∷ 1 ∷ []) ∷
     []
 
 -- in each row of a table the two lists are equal
