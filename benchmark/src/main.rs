@@ -1,5 +1,5 @@
 //! The library beside two Rust programs, on equal input in one run: (a) document 003's Algorithm 1 with adjacency lists,
-//! rebuilt after each message, and (b) the library's own algorithm. Prints the tables of docs/BENCHMARK.md.
+//! rebuilt after each message, and (b) the library's own algorithm, but for a peel. Prints the tables of docs/BENCHMARK.md.
 
 mod covers;
 #[path = "../../differential/src/kernel.rs"]
@@ -284,7 +284,7 @@ fn run(case: &Case) -> Vec<Line> {
     lines.push(case.line("query", times));
 
     // Peels and covers under limits.
-    for (call, limits) in [("peel", half(case, &board)), ("peel, everybody dropped", (alpha, beta))] {
+    for (call, limits) in PEELS.into_iter().zip([half(case, &board), (alpha, beta)]) {
         case.tell(call);
         lines.push(case.line(call, peels(case, &board, &tables, limits)));
     }
@@ -424,6 +424,9 @@ fn print_goal<'a>(lines: impl IntoIterator<Item = &'a Line>, call: &str, (agains
     println!("- {call} at most {most} × {name}: {}, {reached}", ratios.join(", "));
 }
 
+/// The lines of a peel under limits that drop about half, and under those that drop everybody.
+const PEELS: [&str; 2] = ["peel", "peel, everybody dropped"];
+
 const LISTS: (usize, &str) = (1, "(a)");
 const TABLES: (usize, &str) = (2, "(b)");
 
@@ -446,10 +449,14 @@ fn main() {
     print_goal(at_6000(), "message", LISTS, 0.2);
     print_goal(at_6000(), "query", (2, "a Rust loop"), 1.15);
     println!("\nAt 3,000, 6,000 and 12,000 pairs:\n");
-    print_goal(&lines, "peel", LISTS, 0.5);
-    print_goal(&lines, "peel", TABLES, 1.1);
-    print_goal(&lines, covers::HALF[0], LISTS, 0.35);
-    print_goal(&lines, covers::HALF[1], LISTS, 0.1);
+    for call in PEELS {
+        print_goal(&lines, call, LISTS, 0.5);
+        print_goal(&lines, call, TABLES, 1.1);
+    }
+    for [pairs, tables] in [covers::HALF, covers::EVERYBODY] {
+        print_goal(&lines, pairs, LISTS, 0.35);
+        print_goal(&lines, tables, LISTS, 0.1);
+    }
     println!();
     print_bursts();
     previews::print(&cases);
@@ -461,7 +468,7 @@ fn main() {
     sort(&mut lines);
     print_lines(&lines);
     println!("At 50 × 15, 100 × 30 and 200 × 60:\n");
-    print_goal(&lines, "peel", TABLES, 1.1);
+    PEELS.iter().for_each(|call| print_goal(&lines, call, TABLES, 1.1));
     println!();
     println!("Memory at 200 × 60:\n");
     eprintln!("measures stack and lent memory");

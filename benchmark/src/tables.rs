@@ -322,7 +322,8 @@ impl Tables {
         })
     }
 
-    /// A peel of at most so many steps; whether it settled, and the steps taken.
+    /// A peel of at most so many steps, in place, with a look at everybody before each; whether it settled, and the steps
+    /// taken.
     pub fn peel(&self, marks: &mut [u16], alpha: u16, beta: u16, allowed: u16) -> Option<(bool, u16)> {
         if !self.accepted() || marks.iter().any(|&mark| 1 < mark) {
             return None;
