@@ -427,6 +427,48 @@ fn print_goal<'a>(lines: impl IntoIterator<Item = &'a Line>, call: &str, (agains
 /// The lines of a peel under limits that drop about half, and under those that drop everybody.
 const PEELS: [&str; 2] = ["peel", "peel, everybody dropped"];
 
+/// A peel beside the library's own algorithm in Rust, which (b)'s isn't.
+fn print_own_peels(cases: &[Case]) {
+    let most = 1.1;
+    println!("A peel beside the library's own algorithm in Rust, in place (a peel of (b) looks at everybody before each step):\n");
+    println!("| Limits | Board | Pairs | library µs | own µs | library / own |");
+    println!("|---|---|---:|---:|---:|---:|");
+    let mut over = Vec::new();
+    for case in cases {
+        case.tell("a peel beside the library's own in Rust");
+        let mut memory = Box::new(Memory::new());
+        let board = Board::build(memory.parts(), case.operators, case.rides, &case.pairs, START).unwrap();
+        let mut tables = Tables::new(case.operators, case.rides, &case.pairs);
+        assert!(tables.build(START));
+        for (name, (alpha, beta)) in [("about half", half(case, &board)), ("everybody", limits(case, &board))] {
+            let (mut marks, mut same) = (Vec::new(), Vec::new());
+            let (mut peeled, mut again) = (None, None);
+            let [library, own] = measure(
+                10,
+                &mut [
+                    &mut || {
+                        marks = vec![1; case.nodes()];
+                        peeled = Some(board.peel(&mut marks, alpha, beta, u16::MAX).unwrap());
+                    },
+                    &mut || {
+                        same = vec![1; case.nodes()];
+                        again = black_box(&tables).own_peel(&mut same, alpha, beta, u16::MAX);
+                    },
+                ],
+            );
+            assert!(marks == same && again == peeled.map(|peeled| (peeled.settled, peeled.steps)));
+            let ratio = median(library.iter().zip(&own).map(|(library, own)| library / own).collect());
+            let (n, m, pairs) = (case.operators, case.rides, case.pairs.len());
+            println!("| {name} | {n} × {m} | {pairs} | {:.1} | {:.1} | {ratio:.2} |", median(library), median(own));
+            if most < ratio {
+                over.push(format!("{n} × {m}, {pairs} pairs, {name}: {ratio:.2}"));
+            }
+        }
+    }
+    let reached = if over.is_empty() { "reached".to_string() } else { format!("NOT reached at {}", over.join("; ")) };
+    println!("\n- library at most {most} × its own algorithm in place: {reached}\n");
+}
+
 const LISTS: (usize, &str) = (1, "(a)");
 const TABLES: (usize, &str) = (2, "(b)");
 
@@ -470,6 +512,7 @@ fn main() {
     println!("At 50 × 15, 100 × 30 and 200 × 60:\n");
     PEELS.iter().for_each(|call| print_goal(&lines, call, TABLES, 1.1));
     println!();
+    print_own_peels(&cases);
     println!("Memory at 200 × 60:\n");
     eprintln!("measures stack and lent memory");
     memory::print();

@@ -1,5 +1,5 @@
 //! (b) The library's own algorithm in Rust: dense tables of bytes, sweeps that subtract whole rows, a limit that rises to
-//! one more than the least degree of a ride.
+//! one more than the least degree of a ride. Its peel looks at everybody before each step; the library's own is beside it.
 
 use board::{Message, Words, GRANT, OPERATOR_OFF, OPERATOR_ON, PRESENT, RIDE_IN, RIDE_OUT, WITHDRAWAL};
 
@@ -154,6 +154,39 @@ fn fill_index(n: usize, m: usize, operators: &[u16], rides: &[u16], presence: &[
 fn lowest_short(marks: &[u16], degrees: &[u8], limits: &[u16]) -> Option<usize> {
     let nodes = marks.iter().zip(degrees).zip(limits);
     nodes.into_iter().position(|((&mark, &degree), &limit)| mark == 1 && (degree as u16) < limit)
+}
+
+/// The lowest node from a place on whose degree is below its limit, both in bytes.
+fn lowest_byte(degrees: &[u8; 260], limits: &[u8; 260], from: usize, nodes: usize) -> usize {
+    (from..nodes).find(|&x| degrees[x] < limits[x]).unwrap_or(nodes)
+}
+
+/// The state of the library's peel, changed in place.
+struct State {
+    degrees: [u8; 260],
+    operators: usize,
+    nodes: usize,
+    steps: u16,
+    next: usize,
+}
+
+impl State {
+    fn step(&mut self, by_operator: &[u8], by_ride: &[u8], limits: &mut [u8; 260], marks: &mut [u16]) {
+        let (n, x, nodes) = (self.operators, self.next, self.nodes);
+        if x < n {
+            let at = x * 60;
+            subtract(&mut self.degrees[n..nodes], &by_operator[at..at + nodes - n]);
+        } else {
+            let at = (x - n) * 200;
+            subtract(&mut self.degrees[..n], &by_ride[at..at + n]);
+        }
+        limits[x] = 0;
+        marks[x] = 0;
+        let short = |u: usize| (self.degrees[u] < limits[u]) as u8;
+        let from = if n <= x && (0..n).map(short).sum::<u8>() != 0 { 0 } else { x };
+        self.next = lowest_byte(&self.degrees, limits, from, nodes);
+        self.steps += 1;
+    }
 }
 
 impl Tables {
@@ -361,6 +394,33 @@ impl Tables {
                 subtract(&mut degrees[..n], &by_ride[(x - n) * 200..(x - n) * 200 + n]);
             }
         }
+    }
+
+    /// A peel as the library makes it, in place: the state knows the node dropped next, and looks on from there.
+    pub fn own_peel(&self, marks: &mut [u16], alpha: u16, beta: u16, allowed: u16) -> Option<(bool, u16)> {
+        if !self.accepted() || marks.iter().any(|&mark| 1 < mark) {
+            return None;
+        }
+        let (n, m, pairs) = (self.operators as usize, self.rides as usize, self.pairs as usize);
+        let (mut by_operator, mut by_ride) = ([0; 12000], [0; 12000]);
+        let (operators, rides) = (&self.operator_numbers[..pairs], &self.ride_numbers[..pairs]);
+        let (mut here, mut degrees, mut limits) = ([0; 260], [0; 260], [0; 260]);
+        let words = self.presence[..n + m].iter().zip(&*marks);
+        here.iter_mut().zip(words).for_each(|(bit, (&word, &mark))| *bit = (word == PRESENT) as u8 & (mark == 1) as u8);
+        let start = tabulate(n, operators, rides, &here, &mut by_operator, &mut by_ride);
+        degrees[..n].copy_from_slice(&start.operators[..n]);
+        degrees[n..n + m].copy_from_slice(&start.rides[..m]);
+        for (x, byte) in limits[..n + m].iter_mut().enumerate() {
+            let limit = if x < n { alpha } else { beta };
+            let limit = if self.presence[x] == PRESENT { limit } else { (n + m + 1) as u16 };
+            *byte = if marks[x] == 1 { limit.min(255) as u8 } else { 0 };
+        }
+        let next = lowest_byte(&degrees, &limits, 0, n + m);
+        let mut state = State { degrees, operators: n, nodes: n + m, steps: 0, next };
+        while state.steps < allowed && state.next < n + m {
+            state.step(&by_operator, &by_ride, &mut limits, marks);
+        }
+        Some((n + m <= state.next, state.steps))
     }
 }
 
