@@ -3,6 +3,7 @@
 //! removal, and levels by one cover after another.
 
 pub mod corrections;
+pub mod crowd;
 pub mod frames;
 pub mod presence;
 pub mod samples;

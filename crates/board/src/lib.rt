@@ -4,6 +4,7 @@ ghost use Rattle.model.specs.Layout.{lent};
 ghost use Rattle.model.specs.Calls.{board-build, board-query, board-peel};
 ghost use Rattle.model.specs.Outcome.{queried, peel-left, build-left};
 
+pub mod crowd; // crowd.rt: look-up and cover for a guest count
 pub mod message; // message.rt: message and message list
 pub mod preview; // preview.rt: preview
 

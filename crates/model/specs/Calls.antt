@@ -65,16 +65,20 @@ counts h marks =
       rides = count (h .rides) (λ v. marked marks (h .operators + v));
     }
 
+-- what a query or a cover gives: its marks over those that came in, and their counts
+abbrev pub shown : Head → List ℕ → List ℕ → QueryOutcome
+shown h new marks = record { answer = counts h new; marks = over new marks }
+
+-- what it gives where it is refused: the number with counts of 0, and the marks that came in
+abbrev pub not-shown : ℕ → List ℕ → QueryOutcome
+not-shown number marks = record { answer = record { code = number; operators = 0; rides = 0 }; marks = marks }
+
 -- Query
 unfoldable pub board-query : Head → List ℕ → List ℕ → ℕ → ℕ → List ℕ → QueryOutcome
 board-query h index presence α β marks =
     elim (query-refusal h index presence marks) [
-      | zero ↦
-          record {
-            answer = counts h (query-marks h index presence α β);
-            marks = over (query-marks h index presence α β) marks;
-          }
-      | suc k ↦ record { answer = record { code = suc k; operators = 0; rides = 0 }; marks = marks }
+      | zero ↦ shown h (query-marks h index presence α β) marks
+      | suc k ↦ not-shown (suc k) marks
     ]
 
 -- what a peel gives: its answer, and the marks at exit

@@ -8,12 +8,14 @@ use lib.Dec.{T, leb}
 use lib.ListN.{length, getD, set, drop}
 use Rattle.model.specs.declared.Head.{Head}
 use Rattle.model.specs.declared.Message.{Message}
+use Rattle.model.specs.declared.Bands.{Bands}
 use Rattle.model.specs.Count.{count, some}
 use Rattle.model.specs.Graph.{Graph, nodes, degree, everybody, Inside, Largest, limits, CoreInside, Core, marked, present, counting, raised, short, settled, removals, peel, cover-under, cover, level, row-for, in-by-level, index-of}
 use Rattle.model.specs.Layout.{Part, Index, Presence, Board, mark-places, places, of-parts, exact, copied, sized, counting-graph, listed-graph, board-graph}
 use Rattle.model.specs.Contents.{Slot, Pair, Operator, Ride, Entry, gives, later, slot, entry, contents}
-use Rattle.model.specs.Refusal.{refused-1, refused-2, refused-7, refused-8, refused-9, refused-14, outside, unused, first-number, board-short, valid-cases, build-refusal, list-refusal, peel-refusal}
+use Rattle.model.specs.Refusal.{refused-1, refused-2, refused-7, refused-8, refused-9, refused-14, outside, unused, first-number, board-short, valid-cases, peel-cases, build-refusal, list-refusal, peel-refusal}
 use Rattle.model.specs.Calls.{QueryOutcome, PeelOutcome, query-marks, board-build, board-query, board-peel}
+use Rattle.model.specs.Crowd.{most-guests, band, crowd-refusal, board-crowd-limits, board-crowd-cover}
 use Rattle.model.specs.Message.{board-message, board-preview, board-messages}
 
 -- how many nodes are marked
@@ -134,6 +136,9 @@ pub record NeverEleven : Type 0 where
   pub query : (h : Head) (index presence : List ℕ) (α β : ℕ) (marks : List ℕ) → board-query h index presence α β marks .answer .code ≢ 11
   pub peel : (h : Head) (operators rides presence marks : List ℕ) (α β allowed : ℕ) →
       board-peel h operators rides presence marks α β allowed .answer .code ≢ 11
+  pub crowd-limits : (t : Bands) (guests : ℕ) → board-crowd-limits t guests .code ≢ 11
+  pub crowd-cover : (h : Head) (operators rides presence : List ℕ) (t : Bands) (guests : ℕ) (marks : List ℕ) →
+      board-crowd-cover h operators rides presence t guests marks .answer .code ≢ 11
   pub message : (b : Board) (m : Message) → board-message b m .answer .code ≢ 11
   pub preview : (b : Board) (m : Message) (spare : Board) → board-preview b m spare .answer .code ≢ 11
   pub messages : (b : Board) (ms : List Message) (answers : List ℕ) → board-messages b ms answers .code ≢ 11
@@ -264,6 +269,84 @@ PeelIsCore =
     let g = counting-graph h operators rides presence in
     AllOnes g marks →
     IsPeeledCore g (present presence) α β allowed (board-peel h operators rides presence marks α β allowed)
+
+-- Document 02, 2.6. Guest count c falls in band i of a table
+pub record FallsIn (t : Bands) (c i : ℕ) : Type 0 where
+  pub read : i < t .count
+  pub from : band t i .first ≤ c
+  pub to : c ≤ band t i .last
+
+-- a guest count falls in exactly one band
+pub record InOneBand (t : Bands) (c : ℕ) : Type 0 where
+  pub place : ℕ
+  pub falls : FallsIn t c place
+  pub only : (i : ℕ) → FallsIn t c i → i ≡ place
+
+-- a guest count from 0 to 20,000 falls in two bands
+pub record Overlap (t : Bands) : Type 0 where
+  pub guests : ℕ
+  pub in-range : guests ≤ most-guests
+  pub one : ℕ
+  pub other : ℕ
+  pub differ : one ≢ other
+  pub falls-one : FallsIn t guests one
+  pub falls-other : FallsIn t guests other
+
+-- a guest count from 0 to 20,000 falls in no band
+pub record Gap (t : Bands) : Type 0 where
+  pub guests : ℕ
+  pub in-range : guests ≤ most-guests
+  pub none : (i : ℕ) → FallsIn t guests i → ⊥
+
+-- one to eight bands, none whose first count exceeds its last, and no guest count above 20,000
+pub record Formed (t : Bands) : Type 0 where
+  pub least : 1 ≤ t .count
+  pub most : t .count ≤ 8
+  pub ordered : (i : ℕ) → i < t .count → band t i .first ≤ band t i .last
+  pub in-range : (i : ℕ) → i < t .count → band t i .last ≤ most-guests
+
+-- Document 02, 2.6, of a look-up in any table, for any guest count
+pub record CrowdLimitsLaws (t : Bands) (guests : ℕ) : Type 0 where
+  -- accepted exactly if every guest count from 0 to 20,000 falls in exactly one band, and 16 doesn't apply
+  pub accepted : (board-crowd-limits t guests .code ≡ 0) ↔ (Formed t × (guests ≤ most-guests) × ((c : ℕ) → c ≤ most-guests → InOneBand t c))
+  -- 16; otherwise an overlap gives 17; otherwise a gap gives 18
+  pub sixteen : (board-crowd-limits t guests .code ≡ 16) ↔ ((Formed t × (guests ≤ most-guests)) → ⊥)
+  pub seventeen : (board-crowd-limits t guests .code ≡ 17) ↔ (Formed t × (guests ≤ most-guests) × Overlap t)
+  pub eighteen : (board-crowd-limits t guests .code ≡ 18) ↔ (Formed t × (guests ≤ most-guests) × (Overlap t → ⊥) × Gap t)
+  -- it gives the limits of the band that the guest count falls in
+  pub alpha : board-crowd-limits t guests .code ≡ 0 → (i : ℕ) → FallsIn t guests i → board-crowd-limits t guests .alpha ≡ band t i .alpha
+  pub beta : board-crowd-limits t guests .code ≡ 0 → (i : ℕ) → FallsIn t guests i → board-crowd-limits t guests .beta ≡ band t i .beta
+  -- every number beside a refusal is 0
+  pub no-alpha : board-crowd-limits t guests .code ≢ 0 → board-crowd-limits t guests .alpha ≡ 0
+  pub no-beta : board-crowd-limits t guests .code ≢ 0 → board-crowd-limits t guests .beta ≡ 0
+
+-- Document 02, 2.6, of a cover for any guest count by any table, of any pair table and any presence words
+pub record CrowdCoverLaws (h : Head) (operators rides presence : List ℕ) (t : Bands) (guests : ℕ) (marks : List ℕ) : Type 0 where
+  -- the board's own checks come first, 1 to 5; where none applies it has the number of the look-up
+  pub board-first : first-number (peel-cases h operators rides presence marks) ≢ 0 →
+      board-crowd-cover h operators rides presence t guests marks .answer .code ≡ first-number (peel-cases h operators rides presence marks)
+  pub then-bands : first-number (peel-cases h operators rides presence marks) ≡ 0 →
+      board-crowd-cover h operators rides presence t guests marks .answer .code ≡ board-crowd-limits t guests .code
+  -- not refused, it is the core of the pairs that count and those present for the limits of the look-up, and its counts are its sizes
+  pub core : board-crowd-cover h operators rides presence t guests marks .answer .code ≡ 0 →
+      IsCore (counting-graph h operators rides presence) (present presence) (board-crowd-limits t guests .alpha) (board-crowd-limits t guests .beta)
+      (board-crowd-cover h operators rides presence t guests marks)
+  -- refused, it leaves the marks, and its counts are 0
+  pub kept : board-crowd-cover h operators rides presence t guests marks .answer .code ≢ 0 →
+      board-crowd-cover h operators rides presence t guests marks .marks ≡ marks
+  pub no-operators : board-crowd-cover h operators rides presence t guests marks .answer .code ≢ 0 →
+      board-crowd-cover h operators rides presence t guests marks .answer .operators ≡ 0
+  pub no-rides : board-crowd-cover h operators rides presence t guests marks .answer .code ≢ 0 →
+      board-crowd-cover h operators rides presence t guests marks .answer .rides ≡ 0
+  -- places past operators + rides stay
+  pub behind : drop (mark-places h) (board-crowd-cover h operators rides presence t guests marks .marks) ≡ drop (mark-places h) marks
+  -- the marks that come in aren't read
+  pub any-answer : (other : List ℕ) → length other ≡ length marks →
+      board-crowd-cover h operators rides presence t guests other .answer ≡ board-crowd-cover h operators rides presence t guests marks .answer
+  -- a query for these limits on an index of the same pairs gives the same
+  pub as-query : (more : List ℕ) → board-crowd-cover h operators rides presence t guests marks .answer .code ≡ 0 →
+      board-query h (index-of (counting-graph h operators rides presence) ++ more) presence (board-crowd-limits t guests .alpha) (board-crowd-limits t guests .beta) marks
+      ≡ board-crowd-cover h operators rides presence t guests marks
 
 -- below the sizes the clearances c have all of g's, and further ones, if any, of the operator u alone
 pub record Gained (g : Graph) (c : ℕ → ℕ → Bool) (u : ℕ) : Type 0 where

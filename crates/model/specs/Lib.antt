@@ -4,6 +4,7 @@ pub mod Layout
 pub mod Contents
 pub mod Refusal
 pub mod Calls
+pub mod Crowd
 pub mod Message
 pub mod Demand
 pub mod Outcome

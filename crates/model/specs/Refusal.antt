@@ -149,11 +149,14 @@ preview-refusal b m spare =
 unfoldable pub list-refusal : Board → ℕ → List ℕ → ℕ
 list-refusal b messages answers = first-number (board-cases b (board-short b || refused-3 messages answers))
 
+-- 1 to 5, of what is lent to a peel, and to a cover found by one
+abbrev pub peel-cases : Head → List ℕ → List ℕ → List ℕ → List ℕ → List (ℕ × Bool)
+peel-cases h operators rides presence marks =
+    table-cases h
+    (refused-3 (pair-places h) operators || refused-3 (pair-places h) rides || refused-3 (mark-places h) presence || refused-3 (mark-places h) marks)
+    operators rides
+
 -- peel: 1 to 5 and 12
 unfoldable pub peel-refusal : Head → List ℕ → List ℕ → List ℕ → List ℕ → ℕ
 peel-refusal h operators rides presence marks =
-    first-number
-    (table-cases h
-    (refused-3 (pair-places h) operators || refused-3 (pair-places h) rides || refused-3 (mark-places h) presence || refused-3 (mark-places h) marks)
-    operators rides ++
-    (12, refused-12 h marks) ∷ [])
+    first-number (peel-cases h operators rides presence marks ++ (12, refused-12 h marks) ∷ [])

@@ -41,3 +41,27 @@ pub struct Answer {
     pub code: u16,
     pub differ: u16,
 }
+
+// A band of a crowd table: its first and last guest count, and the limits for them.
+#[repr(C)]
+pub struct Band {
+    pub first: u16,
+    pub last: u16,
+    pub alpha: u16,
+    pub beta: u16,
+}
+
+// A crowd table: one to eight bands in any order. Bands past the count are not read.
+#[repr(C)]
+pub struct Bands {
+    pub count: u16,
+    pub bands: [Band; 8],
+}
+
+// What a look-up in a crowd table answers: document 02's number, and the limits of the band that the guest count falls in.
+#[repr(C)]
+pub struct CrowdLimits {
+    pub code: u16,
+    pub alpha: u16,
+    pub beta: u16,
+}

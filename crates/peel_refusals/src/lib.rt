@@ -4,7 +4,7 @@ ghost use mathlib.Core.Bool.{_||_};
 ghost use Prim.Native.Nat.{_≤_};
 ghost use lib.ListN.{length};
 ghost use Rattle.model.specs.Layout.{pair-places, mark-places};
-ghost use Rattle.model.specs.Refusal.{refused-3, refused-12, peel-refusal};
+ghost use Rattle.model.specs.Refusal.{refused-3, refused-12, first-number, peel-cases, peel-refusal};
 use model::Head;
 use refusals::table_number;
 
@@ -48,6 +48,20 @@ fn bad_marks(head: Head, marks: &[u16]) -> bool
     false
 }
 
+// 1 to 5, of what is lent to a peel, and to a cover found by one.
+pub fn lent_number(
+    head: Head,
+    operators: &[u16],
+    rides: &[u16],
+    presence: &[u16],
+    marks: &[u16],
+) -> u16
+    ensures { λ r. ⌜ r ≡ first-number (peel-cases head (now (operators .entry)) (now (rides .entry)) (now (presence .entry)) (now (marks .entry))) ⌝ }
+{
+    let short = short_peel(head, operators, rides, presence, marks);
+    table_number(head, short, operators, rides)
+}
+
 // 1 to 5 and 12.
 pub fn peel_number(
     head: Head,
@@ -58,8 +72,7 @@ pub fn peel_number(
 ) -> u16
     ensures { λ r. ⌜ r ≡ peel-refusal head (now (operators .entry)) (now (rides .entry)) (now (presence .entry)) (now (marks .entry)) ⌝ }
 {
-    let short = short_peel(head, operators, rides, presence, marks);
-    let number = table_number(head, short, operators, rides);
+    let number = lent_number(head, operators, rides, presence, marks);
     if number != 0 {
         return number;
     }

@@ -1,0 +1,53 @@
+// The cover for a guest count: refused, or the cover of those present under the limits of its band.
+ghost use mathlib.Core.Path.{_≡_};
+ghost use Rattle.model.specs.Calls.{not-shown};
+ghost use Rattle.model.specs.Crowd.{board-crowd-cover};
+ghost use Rattle.model.specs.Outcome.{queried};
+use model::Bands;
+use model::Counts;
+use model::Head;
+
+// What a refused cover answers.
+fn refused(number: u16) -> Counts
+    ensures { λ r. ⌜ r ≡ not-shown number _ .answer ⌝ }
+{
+    Counts {
+        code: number,
+        operators: 0,
+        rides: 0,
+    }
+}
+
+// Marks the cover for a guest count, and answers the counts of operators and rides marked.
+pub fn crowd_cover(
+    head: Head,
+    operators: &[u16],
+    rides: &[u16],
+    presence: &[u16],
+    bands: Bands,
+    guests: u16,
+    marks: &mut [u16],
+) -> Counts
+    ensures { λ r. ⌜
+        queried r (now (marks .exit))
+        ≡ board-crowd-cover head (now (operators .entry)) (now (rides .entry)) (now (presence .entry)) bands guests (now (marks .entry))
+        ⌝ }
+{
+    let number = peel_refusals::lent_number(head, operators, rides, presence, marks);
+    if number != 0 {
+        return refused(number);
+    }
+    let limits = bands::crowd_limits(bands, guests);
+    if limits.code != 0 {
+        return refused(limits.code);
+    }
+    present_covers::cover(
+        head,
+        operators,
+        rides,
+        presence,
+        limits.alpha,
+        limits.beta,
+        marks,
+    )
+}
