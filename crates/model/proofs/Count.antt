@@ -3,7 +3,7 @@ use mathlib.Core.Path.{_≡_, refl, sym, ap, ap₂, _∙_, subst}
 use mathlib.Core.Logic.{_≢_}
 use mathlib.Core.Bool.{Bool, true, false, _&&_, _||_, not}
 use mathlib.Core.List.{List, [], _∷_, _++_}
-use Prim.Native.Nat.{ℕ, zero, suc, _+_, _*_, _≤_, _<_}
+use Prim.Native.Nat.{ℕ, zero, suc, _+_, _-_, _*_, _≤_, _<_}
 use native.Mathlib.Nat.{suc-mul, add-zero, add-suc}
 use native.Mathlib.Numerals.{add-one}
 use native.Mathlib.Omega.{arith}
@@ -154,6 +154,20 @@ module _ (p : ℕ → Bool) where
       by-test (p k)
       (λ t. (k, omega arith, t))
       (λ n. let w = count-witness k (omega (arith, ap bit (test-false (p k) n))) in (w .0, omega (arith, w .1), w .2))
+
+  -- two numbers that pass are counted, and where two are counted two pass
+  pub count-two : (k i j : ℕ) → i < j → j < k → T (p i) → T (p j) → 1 < count k p
+  count-two k i j l h s t =
+      let e : k ≡ j + 1 + (k - (j + 1)) = omega arith in
+      omega (arith, count-pos j i l s, count-more j, ap bit (test-true (p j) t), ap (λ (n : ℕ). count n p) e, count-append (j + 1) (k - (j + 1)))
+
+  pub count-two-witness : (k : ℕ) → 1 < count k p → (i : ℕ) × (j : ℕ) × (i < j) × (j < k) × T (p i) × T (p j)
+  unfolding count
+  count-two-witness zero h = absurd (let z : ⊥ = omega arith in z)
+  count-two-witness (suc k) h =
+      by-test (p k)
+      (λ t. let w = count-witness k (omega (arith, bit-le (p k))) in (w .0, k, w .1, omega arith, w .2, t))
+      (λ n. let w = count-two-witness k (omega (arith, ap bit (test-false (p k) n))) in (w .0, w .1, w .2, omega (arith, w .3), w .4, w .5))
 
   pub count-zero : (k : ℕ) → ((y : ℕ) → y < k → T (p y) → ⊥) → count k p ≡ 0
   count-zero k f = elim (decLt 0 (count k p)) [ yes l ↦ (let w = count-witness k l in absurd (f (w .0) (w .1) (w .2))) | no l ↦ omega arith ]

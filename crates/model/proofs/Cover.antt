@@ -78,7 +78,7 @@ module _ (g : Graph) (limit : ℕ → ℕ) where
   unfolding cover-under
   under-largest = peeled-largest (nodes g) ones (all-ones g) (peel-laws .settles g limit (nodes g) ones (count-le (marked ones) (nodes g)))
 
-  under-length : length (cover-under g limit) ≡ nodes g
+  pub under-length : length (cover-under g limit) ≡ nodes g
   unfolding cover-under
   under-length = length-peel g limit (nodes g) ones ∙ length-replicate (nodes g) 1
 

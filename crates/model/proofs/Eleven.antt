@@ -15,10 +15,13 @@ use Rattle.model.specs.declared.Message.{Message}
 use Rattle.model.specs.Layout.{Board}
 use Rattle.model.specs.Refusal.{first-number, build-refusal, query-refusal, message-refusal, preview-refusal, list-refusal, peel-refusal}
 use Rattle.model.specs.Calls.{counts, board-build, board-query, peeled, board-peel}
+use Rattle.model.specs.Crowd.{crowd-refusal, crowd-cover-refusal}
 use Rattle.model.specs.Message.{ListOutcome, in-order, board-message, board-messages}
 use Rattle.model.specs.Demand.{NeverEleven}
 use Rattle.model.proofs.Count.{by-test, and-left, and-right}
 use Rattle.model.proofs.Chain.{first-here, first-skip}
+use Rattle.model.proofs.CrowdTable.{limits-code}
+use Rattle.model.proofs.CrowdCover.{cover-code}
 use Rattle.model.proofs.Taken.{message-code, list-taken, list-refused}
 use Rattle.model.proofs.Preview.{preview-code}
 
@@ -97,12 +100,14 @@ list-never b ms answers i z l e =
     (subst (λ (o : ListOutcome). getD (o .answers) i 0 ≡ 11) (list-taken b ms answers none) e))
 
 pub never-eleven : NeverEleven
-unfolding build-refusal query-refusal peel-refusal preview-refusal list-refusal
+unfolding build-refusal query-refusal peel-refusal crowd-refusal crowd-cover-refusal preview-refusal list-refusal
 never-eleven =
     record {
       build = λ b start e. first-lacks 11 (λ q. omega arith) _ tt (sym (build-code b start _ refl) ∙ e);
       query = λ h index presence α β marks e. first-lacks 11 (λ q. omega arith) _ tt (sym (query-code h index presence α β marks _ refl) ∙ e);
       peel = λ h operators rides presence marks α β allowed e. first-lacks 11 (λ q. omega arith) _ tt (sym (peel-code h operators rides presence marks α β allowed _ refl) ∙ e);
+      crowd-limits = λ t guests e. first-lacks 11 (λ q. omega arith) _ tt (sym (limits-code t guests _ refl) ∙ e);
+      crowd-cover = λ h operators rides presence t guests marks e. first-lacks 11 (λ q. omega arith) _ tt (sym (cover-code h operators rides presence t guests marks _ refl) ∙ e);
       message = message-never;
       preview = λ b m spare e. first-lacks 11 (λ q. omega arith) _ tt (sym (preview-code b m spare) ∙ e);
       messages = λ b ms answers e. first-lacks 11 (λ q. omega arith) _ tt (sym (list-code b ms answers _ refl) ∙ e);

@@ -15,7 +15,7 @@ use Rattle.model.specs.Graph.{Graph, nodes, Largest, limits, CoreInside,
 use Rattle.model.specs.Layout.{Operators, Rides, Index, Presence, Board, pair-places, mark-places, index-places, over, sized, counting-graph, listed-graph, board-graph}
 use Rattle.model.specs.Contents.{Pair, Operator, Ride, Entry, gives, Contents, counted, node-slot, words}
 use Rattle.model.specs.Refusal.{refused-1, refused-2, refused-3, refused-12, build-refusal, query-refusal, peel-refusal}
-use Rattle.model.specs.Calls.{start-contents, built, board-build, level-read, query-marks, counts, board-query, peel-limits, peeled, board-peel}
+use Rattle.model.specs.Calls.{start-contents, built, board-build, level-read, query-marks, counts, shown, board-query, peel-limits, peeled, board-peel}
 use Rattle.model.specs.Demand.{AllOnes, IsCore, IndexThenQuery, BuildThenQuery, PeelIsLargest, IsPeeledCore, PeelIsCore}
 use Rattle.model.proofs.Count.{test-true, bit-test, and-true, or-cases, count-le, count-ext, some-witness, length-values, getD-values, values-ext, length-rows}
 use Rattle.model.proofs.Peel.{all-marked, peel-laws}
@@ -78,6 +78,26 @@ module _ (b : Board) (start : ℕ) (none : build-refusal b start ≡ 0) where
 
 -- ---- query
 
+-- the lent marks show what was set
+module _ (h : Head) (new marks : List ℕ) (long : length new ≡ mark-places h) where
+  marked-over : (x : ℕ) → x < mark-places h → marked new x ≡ marked (over new marks) x
+  marked-over x l = ap (λ (z : ℕ). eqb z 1) (sym (List·getD-append new (drop (length new) marks) 0 x (omega (arith, long))))
+
+-- the core, shown over the marks that came in, with its sizes
+pub shown-core : (h : Head) (c : ℕ → ℕ → Bool) (here : ℕ → Bool) (α β : ℕ) (new marks : List ℕ) → length new ≡ mark-places h → CoreInside (sized h c) here α β (marked new) → IsCore (sized h c) here α β (shown h new marks)
+unfolding counts
+shown-core h c here α β new marks long core =
+    record {
+      code = refl;
+      core = largest-ext (sized h c) (limits (h .operators) α β) here (marked new) (marked (over new marks)) (marked-over h new marks long) core;
+      operators = count-ext (marked new) (marked (over new marks)) (h .operators) (λ x l. marked-over h new marks long x (omega arith));
+      rides = count-ext (λ (v : ℕ). marked new (h .operators + v)) (λ (v : ℕ). marked (over new marks) (h .operators + v)) (h .rides) (λ v l. marked-over h new marks long (h .operators + v) (omega arith));
+    }
+
+marks-long : (h : Head) (index presence : List ℕ) (α β : ℕ) → length (query-marks h index presence α β) ≡ mark-places h
+unfolding query-marks
+marks-long h index presence α β = length-values (λ (x : ℕ). bit (query-in h index presence α β x)) (mark-places h)
+
 length-index : (g : Graph) → length (index-of g) ≡ g .rides * nodes g
 unfolding index-of
 length-index g = length-rows (nodes g) (λ (a x : ℕ). level g (suc a) x) (g .rides)
@@ -124,24 +144,15 @@ module _ (h : Head) (d : ℕ → ℕ → Bool) (presence more : List ℕ) (α β
       values-ext (λ (x : ℕ). bit (query-in h index presence α β x)) (λ (x : ℕ). bit (query-in h (index-of g) presence α β x)) (mark-places h)
       (λ x l. ap (λ (z : ℕ). bit (here x && in-by-level (limits (h .operators) α β x) β z)) (word x l))
 
-  marks-long : length (query-marks h index presence α β) ≡ mark-places h
-  unfolding query-marks
-  marks-long = length-values (λ (x : ℕ). bit (query-in h index presence α β x)) (mark-places h)
-
-  -- the lent marks show what was set
-  shown : (x : ℕ) → x < mark-places h → marked (query-marks h index presence α β) x ≡ marked (over (query-marks h index presence α β) marks) x
-  shown x l = ap (λ (z : ℕ). eqb z 1) (sym (List·getD-append (query-marks h index presence α β) (drop (length (query-marks h index presence α β)) marks) 0 x (omega (arith, marks-long))))
+  -- the call shows what a query of the index alone marks
+  pub query-shown : board-query h index presence α β marks ≡ shown h (query-marks h (index-of g) presence α β) marks
+  unfolding board-query
+  query-shown = rw (query-none, board-query) (ap (λ (s : List ℕ). shown h s marks) same-marks)
 
   outcome : IsCore g here α β (board-query h index presence α β marks)
-  unfolding board-query counts
   outcome =
-      rw (query-none, board-query)
-      (record {
-        code = refl;
-        core = largest-ext g (limits (h .operators) α β) here (marked (query-marks h index presence α β)) (marked (over (query-marks h index presence α β) marks)) shown (subst (λ (z : List ℕ). CoreInside g here α β (marked z)) (sym same-marks) (query-is-core h d presence α β));
-        operators = count-ext (marked (query-marks h index presence α β)) (marked (over (query-marks h index presence α β) marks)) (h .operators) (λ x l. shown x (omega arith));
-        rides = count-ext (λ (v : ℕ). marked (query-marks h index presence α β) (h .operators + v)) (λ (v : ℕ). marked (over (query-marks h index presence α β) marks) (h .operators + v)) (h .rides) (λ v l. shown (h .operators + v) (omega arith));
-      })
+      subst (IsCore g here α β) (sym query-shown)
+      (shown-core h (g .cleared) here α β (query-marks h (index-of g) presence α β) marks (marks-long h (index-of g) presence α β) (query-is-core h d presence α β))
 
 pub index-then-query : IndexThenQuery
 index-then-query h d presence more α β marks few few′ here-long long = outcome h d presence more α β marks few few′ here-long long

@@ -17,6 +17,8 @@ pub mod Taken
 pub mod Exact
 pub mod EndToEnd
 pub mod Preview
+pub mod CrowdTable
+pub mod CrowdCover
 pub mod Eleven
 pub mod Later
 pub mod Entries

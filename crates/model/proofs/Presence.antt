@@ -63,7 +63,7 @@ module _ (g : Graph) (here : ℕ → Bool) (limit : ℕ → ℕ) where
           largest = λ r i m x h t. l .largest r (λ y k w. and-left (start y) (here y) (i y k w)) (λ y k w. omega (arith, m y k w, raised-here (nodes g) here limit y (and-right (start y) (here y) (i y k w)))) x h t;
         }
 
-    inside-largest : Largest g limit (λ x. start x && here x) s → Largest g high start s
+    pub inside-largest : Largest g limit (λ x. start x && here x) s → Largest g high start s
     inside-largest l =
         record {
           inside = λ x h t. and-left (start x) (here x) (l .inside x h t);
