@@ -7,9 +7,11 @@ use native.Mathlib.Omega.{arith}
 use lib.ListN.{length, getD, length-append}
 use Rattle.model.specs.declared.Head.{Head}
 use Rattle.model.specs.declared.Message.{Message}
+use Rattle.model.specs.declared.Bands.{Bands}
 use Rattle.model.specs.Graph.{Graph, nodes, limits, marked, present, index-of}
 use Rattle.model.specs.Layout.{Operators, Rides, Index, Presence, Parts, parts, Board, mark-places, listed-graph, board-graph}
 use Rattle.model.specs.Calls.{QueryOutcome, PeelOutcome, board-query, board-peel}
+use Rattle.model.specs.Crowd.{board-crowd-limits, board-crowd-cover}
 use Rattle.model.specs.Demand.{IsCore, IsPeeledCore}
 use Rattle.model.proofs.Cover.{cover-laws, cover-under-laws}
 use Rattle.model.proofs.Level.{level-laws}
@@ -17,10 +19,12 @@ use Rattle.model.proofs.Peel.{peel-laws}
 use Rattle.model.proofs.Presence.{largest-start}
 use Rattle.model.proofs.Query.{zero-is-no-limit, query-is-core, presence-laws}
 use Rattle.model.proofs.Contents.{extend, present-extend, graph-extend, index-words}
-use Rattle.model.proofs.EndToEnd.{index-then-query, build-then-query, peel-none, peel-is-largest, peel-is-core}
+use Rattle.model.proofs.EndToEnd.{index-then-query, build-then-query, peel-cases-none, peel-none, peel-is-largest, peel-is-core}
 use Rattle.model.proofs.Preview.{preview-then-query}
+use Rattle.model.proofs.CrowdTable.{crowd-limits-laws}
+use Rattle.model.proofs.CrowdCover.{crowd-cover-laws}
 use Rattle.delivery.specs.Book.{book, written}
-use Rattle.delivery.specs.Core.{CallsThenIndex, CallsThenQuery, CallsThenPeel, Demand2}
+use Rattle.delivery.specs.Core.{CallsThenIndex, CallsThenQuery, CallsThenPeel, CallsThenCrowdCover, Demand2}
 use Rattle.delivery.proofs.Latest.{AllValid}
 use Rattle.delivery.proofs.Run.{says, laid-written, accepted-written}
 use Rattle.delivery.proofs.Build.{table}
@@ -71,6 +75,19 @@ module _ (h : Head) (es : List Message) where
         subst (λ (g : Graph). IsPeeledCore g here α β allowed (board-peel (board .head) (lent .part Operators) (lent .part Rides) (lent .part Presence) marks α β allowed)) (graph-extend h (says h es) behind)
         (peeled-start (board-graph lent) (present (lent .part Presence)) here α β allowed _ (present-extend h (says h es) behind) c)
 
+  written-crowd : h .operators ≤ 200 → h .rides ≤ 60 → AllValid h es → (marks : List ℕ) → mark-places h ≤ length marks → (more more′ more″ : List ℕ) (t : Bands) (guests : ℕ) → board-crowd-limits t guests .code ≡ 0 → IsCore (board-graph board) here (board-crowd-limits t guests .alpha) (board-crowd-limits t guests .beta) (board-crowd-cover (board .head) (board .part Operators ++ more) (board .part Rides ++ more′) (board .part Presence ++ more″) t guests marks)
+  unfolding written
+  written-crowd few few′ valid marks long more more′ more″ t guests e =
+      let behind : Parts = parts more more′ [] [] [] [] [] more″ in
+      let lent : Board = extend board behind in
+      let laws = crowd-cover-laws (board .head) (lent .part Operators) (lent .part Rides) (lent .part Presence) t guests marks in
+      let none = peel-cases-none lent marks (accepted-written h es few few′ valid behind .table) long in
+      let c = laws .core (laws .then-bands none ∙ e) in
+      let α : ℕ = board-crowd-limits t guests .alpha in
+      let β : ℕ = board-crowd-limits t guests .beta in
+      subst (λ (g : Graph). IsCore g here α β (board-crowd-cover (board .head) (lent .part Operators) (lent .part Rides) (lent .part Presence) t guests marks)) (graph-extend h (says h es) behind)
+      (core-start (board-graph lent) (present (lent .part Presence)) here α β _ (present-extend h (says h es) behind) c)
+
 pub calls-then-index : CallsThenIndex
 calls-then-index b start calls e =
     subst (λ (x : Board). x .part Index ≡ index-of (board-graph x)) (sym (board-is-book b start calls e))
@@ -88,6 +105,12 @@ calls-then-peel b start calls more more′ more″ α β allowed marks e long on
     subst (λ (x : Board). IsPeeledCore (board-graph x) (present (x .part Presence)) α β allowed (board-peel (x .head) (x .part Operators ++ more) (x .part Rides ++ more′) (x .part Presence ++ more″) marks α β allowed)) (sym (board-is-book b start calls e))
     (written-peel (b .head) (book (b .head) (b .part Operators) (b .part Rides) start calls) (t .few-operators) (t .few-rides) α β marks long (valid-book b start calls e) more more′ more″ allowed ones)
 
+pub calls-then-crowd-cover : CallsThenCrowdCover
+calls-then-crowd-cover b start calls more more′ more″ t guests marks e long accepted =
+    let w = table b start e in
+    subst (λ (x : Board). IsCore (board-graph x) (present (x .part Presence)) (board-crowd-limits t guests .alpha) (board-crowd-limits t guests .beta) (board-crowd-cover (x .head) (x .part Operators ++ more) (x .part Rides ++ more′) (x .part Presence ++ more″) t guests marks)) (sym (board-is-book b start calls e))
+    (written-crowd (b .head) (book (b .head) (b .part Operators) (b .part Rides) start calls) (w .few-operators) (w .few-rides) (valid-book b start calls e) marks long more more′ more″ t guests accepted)
+
 pub demand-2 : Demand2
 demand-2 =
     record {
@@ -103,7 +126,10 @@ demand-2 =
       preview-then-query = preview-then-query;
       peel-is-largest = peel-is-largest;
       peel-is-core = peel-is-core;
+      crowd-limits-laws = crowd-limits-laws;
+      crowd-cover-laws = crowd-cover-laws;
       calls-then-index = calls-then-index;
       calls-then-query = calls-then-query;
       calls-then-peel = calls-then-peel;
+      calls-then-crowd-cover = calls-then-crowd-cover;
     }

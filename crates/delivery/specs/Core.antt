@@ -1,15 +1,17 @@
--- Demand 2, all of it: index, queries and peel give the (α, β)-core of Definition 2.1, of the pairs that count and those present, on any index of
+-- Demand 2, all of it: index, queries, peel and the cover for a guest count give the (α, β)-core of Definition 2.1, of the pairs that count and those present, on any index of
 -- clearances, after a build, and after any list of calls.
 use mathlib.Core.Path.{_≡_}
 use mathlib.Core.List.{List, _++_}
 use Prim.Native.Nat.{ℕ, _≤_}
 use lib.ListN.{length}
 use Rattle.model.specs.declared.Head.{Head}
+use Rattle.model.specs.declared.Bands.{Bands}
 use Rattle.model.specs.Graph.{present, index-of}
 use Rattle.model.specs.Layout.{Operators, Rides, Index, Presence, Board, mark-places, board-graph}
 use Rattle.model.specs.Refusal.{build-refusal}
 use Rattle.model.specs.Calls.{board-query, board-peel}
-use Rattle.model.specs.Demand.{AllOnes, PeelLaws, CoverLaws, CoverUnderLaws, LevelLaws, ZeroIsNoLimit, PresenceLaws, QueryIsCore, IsCore, IndexThenQuery, BuildThenQuery, PreviewThenQuery, PeelIsLargest, IsPeeledCore, PeelIsCore}
+use Rattle.model.specs.Crowd.{board-crowd-limits, board-crowd-cover}
+use Rattle.model.specs.Demand.{AllOnes, PeelLaws, CoverLaws, CoverUnderLaws, LevelLaws, ZeroIsNoLimit, PresenceLaws, QueryIsCore, IsCore, IndexThenQuery, BuildThenQuery, PreviewThenQuery, PeelIsLargest, IsPeeledCore, PeelIsCore, CrowdLimitsLaws, CrowdCoverLaws}
 use Rattle.delivery.specs.Calls.{Call, run, built-board}
 
 -- the index that a list of calls left is that of the listed pairs that then count
@@ -42,6 +44,17 @@ CallsThenPeel =
     IsPeeledCore (board-graph left) (present (left .part Presence)) α β allowed
     (board-peel (left .head) (left .part Operators ++ more) (left .part Rides ++ more′) (left .part Presence ++ more″) marks α β allowed)
 
+-- each cover of it for a guest count, by a table that is accepted, gives the core for the limits of the look-up
+abbrev pub CallsThenCrowdCover : Type 0
+CallsThenCrowdCover =
+    (b : Board) (start : ℕ) (calls : List Call) (more more′ more″ : List ℕ) (t : Bands) (guests : ℕ) (marks : List ℕ) →
+    build-refusal b start ≡ 0 →
+    mark-places (b .head) ≤ length marks →
+    board-crowd-limits t guests .code ≡ 0 →
+    let left = run (built-board b start) calls in
+    IsCore (board-graph left) (present (left .part Presence)) (board-crowd-limits t guests .alpha) (board-crowd-limits t guests .beta)
+    (board-crowd-cover (left .head) (left .part Operators ++ more) (left .part Rides ++ more′) (left .part Presence ++ more″) t guests marks)
+
 -- Demand 2, all of it
 pub record Demand2 : Type 0 where
   -- of the definitions: cover, level and index, peel, and what a query marks
@@ -58,7 +71,11 @@ pub record Demand2 : Type 0 where
   pub preview-then-query : PreviewThenQuery
   pub peel-is-largest : PeelIsLargest
   pub peel-is-core : PeelIsCore
+  pub crowd-limits-laws : (t : Bands) (guests : ℕ) → CrowdLimitsLaws t guests
+  pub crowd-cover-laws : (h : Head) (operators rides presence : List ℕ) (t : Bands) (guests : ℕ) (marks : List ℕ) →
+      CrowdCoverLaws h operators rides presence t guests marks
   -- from end to end
   pub calls-then-index : CallsThenIndex
   pub calls-then-query : CallsThenQuery
   pub calls-then-peel : CallsThenPeel
+  pub calls-then-crowd-cover : CallsThenCrowdCover

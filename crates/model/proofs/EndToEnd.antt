@@ -2,7 +2,7 @@
 -- Assumes nothing.
 use mathlib.Core.Path.{_≡_, refl, sym, ap, _∙_, subst}
 use mathlib.Core.Bool.{Bool, true, false, _&&_, _||_}
-use mathlib.Core.List.{List, [], _++_}
+use mathlib.Core.List.{List, [], _∷_, _++_}
 use Prim.Native.Nat.{ℕ, suc, _+_, _-_, _*_, _≤_, _<_}
 use native.Mathlib.Omega.{arith}
 use native.Mathlib.Decide.{decLe}
@@ -14,7 +14,7 @@ use Rattle.model.specs.Count.{bit, values}
 use Rattle.model.specs.Graph.{Graph, nodes, Largest, limits, CoreInside, marked, present, counting, settled, peel, level, row-for, in-by-level, index-of}
 use Rattle.model.specs.Layout.{Operators, Rides, Index, Presence, Board, pair-places, mark-places, index-places, over, sized, counting-graph, listed-graph, board-graph}
 use Rattle.model.specs.Contents.{Pair, Operator, Ride, Entry, gives, Contents, counted, node-slot, words}
-use Rattle.model.specs.Refusal.{refused-1, refused-2, refused-3, refused-12, build-refusal, query-refusal, peel-refusal}
+use Rattle.model.specs.Refusal.{refused-1, refused-2, refused-3, refused-12, first-number, peel-cases, build-refusal, query-refusal, peel-refusal}
 use Rattle.model.specs.Calls.{start-contents, built, board-build, level-read, query-marks, counts, shown, board-query, peel-limits, peeled, board-peel}
 use Rattle.model.specs.Demand.{AllOnes, IsCore, IndexThenQuery, BuildThenQuery, PeelIsLargest, IsPeeledCore, PeelIsCore}
 use Rattle.model.proofs.Count.{test-true, bit-test, and-true, or-cases, count-le, count-ext, some-witness, length-values, getD-values, values-ext, length-rows}
@@ -171,18 +171,27 @@ build-then-query b start α β marks none long =
 
 -- ---- peel
 
--- from all ones, on a board to which 1 to 5 do not apply, none of the peel's numbers applies
-pub peel-none : (b : Board) (marks : List ℕ) → AcceptedTable b → mark-places (b .head) ≤ length marks → AllOnes (board-graph b) marks → peel-refusal (b .head) (b .part Operators) (b .part Rides) (b .part Presence) marks ≡ 0
-unfolding peel-refusal refused-12
-peel-none b marks t long ones =
+-- on a board to which 1 to 5 do not apply, none of them applies to what is lent to a peel, and the numbers behind them decide
+peel-skip : (b : Board) (marks : List ℕ) (cs : List (ℕ × Bool)) → AcceptedTable b → mark-places (b .head) ≤ length marks → first-number (peel-cases (b .head) (b .part Operators) (b .part Rides) (b .part Presence) marks ++ cs) ≡ first-number cs
+peel-skip b marks cs t long =
     let h : Head = b .head in
     let o : Bool = refused-3 (pair-places h) (b .part Operators) in
     let r : Bool = refused-3 (pair-places h) (b .part Rides) in
     let p : Bool = refused-3 (mark-places h) (b .part Presence) in
     let m : Bool = refused-3 (mark-places h) marks in
-    let short : T (o || r || p || m) → ⊥ = λ s. or-cases (o || r || p) m s (λ q. or-cases (o || r) p q (λ k. or-cases o r k (not-less (length (b .part Operators)) (pair-places h) (t .long Operators)) (not-less (length (b .part Rides)) (pair-places h) (t .long Rides))) (not-less (length (b .part Presence)) (mark-places h) (t .long Presence))) (not-less (length marks) (mark-places h) long) in
+    table-skip b (o || r || p || m) cs t
+    (λ s. or-cases (o || r || p) m s (λ q. or-cases (o || r) p q (λ k. or-cases o r k (not-less (length (b .part Operators)) (pair-places h) (t .long Operators)) (not-less (length (b .part Rides)) (pair-places h) (t .long Rides))) (not-less (length (b .part Presence)) (mark-places h) (t .long Presence))) (not-less (length marks) (mark-places h) long))
+
+pub peel-cases-none : (b : Board) (marks : List ℕ) → AcceptedTable b → mark-places (b .head) ≤ length marks → first-number (peel-cases (b .head) (b .part Operators) (b .part Rides) (b .part Presence) marks) ≡ 0
+peel-cases-none b marks t long = peel-skip b marks [] t long ∙ first-nil
+
+-- and from all ones none of the peel's numbers applies
+pub peel-none : (b : Board) (marks : List ℕ) → AcceptedTable b → mark-places (b .head) ≤ length marks → AllOnes (board-graph b) marks → peel-refusal (b .head) (b .part Operators) (b .part Rides) (b .part Presence) marks ≡ 0
+unfolding peel-refusal refused-12
+peel-none b marks t long ones =
+    let h : Head = b .head in
     let unknown : T (refused-12 h marks) → ⊥ = λ s. let w = some-witness (λ (x : ℕ). ltb 1 (getD marks x 0)) (mark-places h) s in omega (arith, ltb→lt 1 (getD marks (w .0) 0) (w .2), ones (w .0) (w .1)) in
-    table-skip b (o || r || p || m) _ t short ∙
+    peel-skip b marks ((12, refused-12 h marks) ∷ []) t long ∙
     first-skip 12 (refused-12 h marks) [] unknown ∙
     first-nil
 
