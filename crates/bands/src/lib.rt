@@ -1,36 +1,40 @@
-// A crowd table: the numbers 16 to 18, and the limits of the band that a guest count falls in.
+// A crowd table: the numbers 16 to 18, and the limits of the band that a guest count falls in. All of it over the table's words, four a band.
 ghost use mathlib.Core.Path.{_≡_};
-ghost use mathlib.Core.Bool.{_||_};
-ghost use Prim.Native.Nat.{_≤_, _<_};
-ghost use lib.Dec.{ltb};
-ghost use Rattle.model.specs.Count.{lowest};
-ghost use Rattle.model.specs.Crowd.{band, falls-in as falls-in-band, refused-16, refused-17, crowd-refusal, board-crowd-limits};
-ghost use Rattle.model.specs.Demand.{Formed};
-ghost use Rattle.bands.specs.Bands.{share as share-one, shares-earlier as shares-one-earlier, widths as all-widths};
-use model::Band;
+ghost use Prim.Native.Nat.{ℕ, _≤_, _<_};
+ghost use lib.ListN.{length};
+ghost use Rattle.model.specs.declared.Bands.{Bands as Table};
+ghost use Rattle.model.specs.Count.{some, lowest};
+ghost use Rattle.model.specs.Crowd.{board-crowd-limits};
+ghost use Rattle.bands.specs.Bands.{first-of, last-of, WordsUpTo, malformed-at, share, shares-earlier as shares-one, widths as added-up, falls-at};
 use model::Bands;
 use model::CrowdLimits;
 
-const MOST_GUESTS: u16 = 20000;
-
-// Whether a band's first guest count exceeds its last, or a guest count is above 20,000: the first is not, where it doesn't exceed the last.
-fn is_malformed(band: Band) -> bool
-    ensures { λ r. ⌜ r ≡ (ltb (band .last) (band .first) || ltb 20000 (band .last)) ⌝ }
+// The words of a table.
+pub fn words(bands: Bands) -> [u16; 32]
+    ensures { λ r. ⌜ WordsUpTo 8 bands r ⌝ }
 {
-    band.last < band.first || MOST_GUESTS < band.last
+    let mut all = [0u16; 32];
+    let mut i = 0;
+    while i < 8 {
+        let band = bands.bands[i];
+        all[i * 4] = band.first;
+        all[i * 4 + 1] = band.last;
+        all[i * 4 + 2] = band.alpha;
+        all[i * 4 + 3] = band.beta;
+        i += 1;
+    }
+    all
 }
 
-// Whether 16 applies.
-fn malformed(bands: Bands, guests: u16) -> bool
-    ensures { λ r. ⌜ r ≡ refused-16 bands guests ⌝ }
+// Whether the first count of one of n bands exceeds its last, or its last is above 20,000.
+fn malformed(words: &[u16; 32], n: usize) -> bool
+    requires { ⌜ n ≤ 8 ⌝ }
+    ensures { λ r. ⌜ r ≡ some n (malformed-at (now (words .entry))) ⌝ }
 {
-    if bands.count < 1 || 8 < bands.count || MOST_GUESTS < guests {
-        return true;
-    }
-    let n = bands.count as usize;
     let mut i = 0;
     while i < n {
-        if is_malformed(bands.bands[i]) {
+        let last = words[i * 4 + 1];
+        if last < words[i * 4] || 20000 < last {
             return true;
         }
         i += 1;
@@ -38,21 +42,16 @@ fn malformed(bands: Bands, guests: u16) -> bool
     false
 }
 
-// Whether two bands share a guest count.
-fn share(a: Band, b: Band) -> bool
-    ensures { λ r. ⌜ r ≡ share-one a b ⌝ }
-{
-    a.first <= b.last && b.first <= a.last
-}
-
 // Whether band i shares a guest count with one before it.
-fn shares_earlier(bands: Bands, i: usize) -> bool
+fn shares_earlier(words: &[u16; 32], i: usize) -> bool
     requires { ⌜ i < 8 ⌝ }
-    ensures { λ r. ⌜ r ≡ shares-one-earlier bands i ⌝ }
+    ensures { λ r. ⌜ r ≡ shares-one (now (words .entry)) i ⌝ }
 {
+    let first = words[i * 4];
+    let last = words[i * 4 + 1];
     let mut j = 0;
     while j < i {
-        if share(bands.bands[j], bands.bands[i]) {
+        if first <= words[j * 4 + 1] && words[j * 4] <= last {
             return true;
         }
         j += 1;
@@ -60,15 +59,14 @@ fn shares_earlier(bands: Bands, i: usize) -> bool
     false
 }
 
-// Whether 17 applies.
-fn overlap(bands: Bands) -> bool
-    requires { ⌜ Formed bands ⌝ }
-    ensures { λ r. ⌜ r ≡ refused-17 bands ⌝ }
+// Whether two of n bands share a guest count.
+fn overlap(words: &[u16; 32], n: usize) -> bool
+    requires { ⌜ n ≤ 8 ⌝ }
+    ensures { λ r. ⌜ r ≡ some n (shares-one (now (words .entry))) ⌝ }
 {
-    let n = bands.count as usize;
     let mut i = 1;
     while i < n {
-        if shares_earlier(bands, i) {
+        if shares_earlier(words, i) {
             return true;
         }
         i += 1;
@@ -76,54 +74,28 @@ fn overlap(bands: Bands) -> bool
     false
 }
 
-// The guest counts of all bands, added up.
-fn widths(bands: Bands) -> u32
-    requires { ⌜ Formed bands ⌝ }
-    ensures { λ r. ⌜ r ≡ all-widths bands (bands .count) ⌝ }
+// The guest counts of n bands, added up.
+fn widths(words: &[u16; 32], n: usize) -> u32
+    requires { ⌜ (n ≤ 8) × ((i : ℕ) → i < n → first-of (now words) i ≤ last-of (now words) i) ⌝ }
+    ensures { λ r. ⌜ r ≡ added-up (now (words .entry)) n ⌝ }
 {
-    let n = bands.count as usize;
-    let mut sum = 0;
+    let mut sum: u32 = 0;
     let mut i = 0;
     while i < n {
-        let band = bands.bands[i];
-        sum += (band.last - band.first) as u32 + 1;
+        sum += (words[i * 4 + 1] - words[i * 4]) as u32 + 1;
         i += 1;
     }
     sum
 }
 
-// 16 to 18: bands that share no guest count have a gap where they have fewer than 20,001 together.
-fn crowd_number(bands: Bands, guests: u16) -> u16
-    ensures { λ r. ⌜ r ≡ crowd-refusal bands guests ⌝ }
+// The first of n bands that a guest count falls in; n where there is none.
+pub fn place_of(words: &[u16; 32], n: usize, guests: u16) -> usize
+    requires { ⌜ n ≤ 8 ⌝ }
+    ensures { λ r. ⌜ r ≡ lowest n (falls-at (now (words .entry)) guests) ⌝ }
 {
-    if malformed(bands, guests) {
-        return 16;
-    }
-    if overlap(bands) {
-        return 17;
-    }
-    if widths(bands) < 20001 {
-        return 18;
-    }
-    0
-}
-
-// Whether a guest count falls in a band.
-fn falls_in(band: Band, guests: u16) -> bool
-    ensures { λ r. ⌜ r ≡ falls-in-band band guests ⌝ }
-{
-    band.first <= guests && guests <= band.last
-}
-
-// The first band that a guest count falls in; the count of bands where there is none.
-pub fn place_of(bands: Bands, guests: u16) -> usize
-    requires { ⌜ bands .count ≤ 8 ⌝ }
-    ensures { λ r. ⌜ r ≡ lowest (bands .count) (λ i. falls-in-band (band bands i) guests) ⌝ }
-{
-    let n = bands.count as usize;
     let mut i = 0;
     while i < n {
-        if falls_in(bands.bands[i], guests) {
+        if words[i * 4] <= guests && guests <= words[i * 4 + 1] {
             return i;
         }
         i += 1;
@@ -131,23 +103,61 @@ pub fn place_of(bands: Bands, guests: u16) -> usize
     n
 }
 
+// What a look-up finds. The number stands last, so that the limits, which lie side by side in the table, are stored and read as one.
+pub struct Found {
+    pub alpha: u16,
+    pub beta: u16,
+    pub number: u16,
+}
+
+// Nothing: the number of a table that is refused.
+fn refused(number: u16) -> Found
+    ensures { λ r. ⌜ r ≡ record { alpha = 0; beta = 0; number = number } ⌝ }
+{
+    Found {
+        alpha: 0,
+        beta: 0,
+        number,
+    }
+}
+
+// The limits of the band that a guest count falls in. Bands that share no guest count have a gap where they have fewer than 20,001 together.
+pub fn find(count: u16, words: &[u16; 32], guests: u16) -> Found
+    ensures { λ r. ⌜
+        ((t : Table) → t .count ≡ count → WordsUpTo 8 t (now (words .entry)) →
+        record { code = r .number; alpha = r .alpha; beta = r .beta } ≡ board-crowd-limits t guests)
+        ⌝ }
+{
+    if count < 1 || 8 < count || 20000 < guests {
+        return refused(16);
+    }
+    let n = count as usize;
+    if malformed(words, n) {
+        return refused(16);
+    }
+    if overlap(words, n) {
+        return refused(17);
+    }
+    if widths(words, n) < 20001 {
+        return refused(18);
+    }
+    let i = place_of(words, n, guests);
+    Found {
+        alpha: words[i * 4 + 2],
+        beta: words[i * 4 + 3],
+        number: 0,
+    }
+}
+
 // The limits of the band that a guest count falls in.
 pub fn crowd_limits(bands: Bands, guests: u16) -> CrowdLimits
     ensures { λ r. ⌜ r ≡ board-crowd-limits bands guests ⌝ }
 {
-    let number = crowd_number(bands, guests);
-    if number != 0 {
-        return CrowdLimits {
-            code: number,
-            alpha: 0,
-            beta: 0,
-        };
-    }
-    let i = place_of(bands, guests);
-    let band = bands.bands[i];
+    let all = words(bands);
+    let found = find(bands.count, &all, guests);
     CrowdLimits {
-        code: 0,
-        alpha: band.alpha,
-        beta: band.beta,
+        code: found.number,
+        alpha: found.alpha,
+        beta: found.beta,
     }
 }

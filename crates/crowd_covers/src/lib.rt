@@ -1,6 +1,5 @@
 // The cover for a guest count: refused, or the cover of those present under the limits of its band.
 ghost use mathlib.Core.Path.{_≡_};
-ghost use Rattle.model.specs.Calls.{not-shown};
 ghost use Rattle.model.specs.Crowd.{board-crowd-cover};
 ghost use Rattle.model.specs.Outcome.{queried};
 use model::Bands;
@@ -9,7 +8,7 @@ use model::Head;
 
 // What a refused cover answers.
 fn refused(number: u16) -> Counts
-    ensures { λ r. ⌜ r ≡ not-shown number _ .answer ⌝ }
+    ensures { λ r. ⌜ r ≡ record { code = number; operators = 0; rides = 0 } ⌝ }
 {
     Counts {
         code: number,
@@ -37,17 +36,18 @@ pub fn crowd_cover(
     if number != 0 {
         return refused(number);
     }
-    let limits = bands::crowd_limits(bands, guests);
-    if limits.code != 0 {
-        return refused(limits.code);
+    let words = bands::words(bands);
+    let found = bands::find(bands.count, &words, guests);
+    if found.number != 0 {
+        return refused(found.number);
     }
     present_covers::cover(
         head,
         operators,
         rides,
         presence,
-        limits.alpha,
-        limits.beta,
+        found.alpha,
+        found.beta,
         marks,
     )
 }

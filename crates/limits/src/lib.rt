@@ -5,29 +5,35 @@ ghost use Prim.Native.Nat.{ℕ, _≤_, _<_, min};
 ghost use lib.Dec.{eqb, ltb};
 ghost use lib.ListN.{length, getD};
 ghost use Rattle.model.specs.Count.{bit};
-ghost use Rattle.model.specs.Graph.{limits as cover-limits, raised};
+ghost use Rattle.model.specs.Graph.{present};
 ghost use Rattle.model.specs.Layout.{mark-places};
 ghost use Rattle.model.specs.Calls.{peel-limits};
 ghost use Rattle.limits.specs.Limits.{limit-of, byte-limit};
 use model::Head;
 
-// The limit of node x by its word: alpha for an operator, beta for a ride. Without a word of 1 it is above the number of nodes, which no degree exceeds.
-fn node_limit(head: Head, x: usize, word: u16, alpha: u16, beta: u16) -> u16
-    requires { ⌜ (head .operators ≤ 200) × (head .rides ≤ 60) ⌝ }
-    ensures { λ r. ⌜ r ≡ raised (mark-places head) (λ y. eqb word 1) (cover-limits (head .operators) alpha beta) x ⌝ }
+// The limit of a node by its word: without a word of 1 it is the high one.
+fn node_limit(word: u16, limit: u16, high: u16) -> u16
+    ensures { λ r. ⌜ r ≡ elim (eqb word 1) [ true ↦ limit | false ↦ high ] ⌝ }
 {
-    let limit = if x < head.operators as usize {
-        alpha
-    } else {
-        beta
-    };
-    if word == 1 {
-        return limit;
-    }
-    head.operators + head.rides + 1
+    if word == 1 { limit } else { high }
 }
 
-// The limits of a peel (alpha, beta): whoever is off or out falls short.
+// The limits of the nodes from one up to another, by their words.
+fn fill_side(presence: &[u16], limit: u16, high: u16, limits: &mut [u16], from: usize, to: usize)
+    requires { ⌜ (from ≤ to) × (to ≤ length (now presence)) × (to ≤ length (now limits)) ⌝ }
+    ensures { λ _. ⌜
+        ((x : ℕ) → x < from → limit-of (now (limits .exit)) x ≡ limit-of (now (limits .entry)) x) ×
+        ((x : ℕ) → from ≤ x → x < to → limit-of (now (limits .exit)) x ≡ elim (present (now (presence .entry)) x) [ true ↦ limit | false ↦ high ])
+        ⌝ }
+{
+    let mut x = from;
+    while x < to {
+        limits[x] = node_limit(presence[x], limit, high);
+        x += 1;
+    }
+}
+
+// The limits of a peel (alpha, beta): whoever is off or out falls short. The high limit is above the number of nodes, which no degree exceeds.
 pub fn fill(head: Head, presence: &[u16], alpha: u16, beta: u16, limits: &mut [u16])
     requires { ⌜
         (head .operators ≤ 200) × (head .rides ≤ 60) × (mark-places head ≤ length (now presence)) × (mark-places head ≤ length (now limits))
@@ -36,12 +42,11 @@ pub fn fill(head: Head, presence: &[u16], alpha: u16, beta: u16, limits: &mut [u
         ((x : ℕ) → x < mark-places head → limit-of (now (limits .exit)) x ≡ peel-limits head (now (presence .entry)) alpha beta x)
         ⌝ }
 {
-    let nodes = head.operators as usize + head.rides as usize;
-    let mut x = 0;
-    while x < nodes {
-        limits[x] = node_limit(head, x, presence[x], alpha, beta);
-        x += 1;
-    }
+    let n = head.operators as usize;
+    let w = n + head.rides as usize;
+    let high = head.operators + head.rides + 1;
+    fill_side(presence, alpha, high, limits, 0, n);
+    fill_side(presence, beta, high, limits, n, w);
 }
 
 // 1 where a degree is below the limit.

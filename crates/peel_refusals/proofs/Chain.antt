@@ -10,7 +10,7 @@ use lib.ListN.{length, getD}
 use Rattle.model.specs.declared.Head.{Head}
 use Rattle.model.specs.Count.{some}
 use Rattle.model.specs.Layout.{pair-places, mark-places}
-use Rattle.model.specs.Refusal.{refused-3, refused-12, first-number, table-cases, peel-refusal}
+use Rattle.model.specs.Refusal.{refused-3, refused-12, first-number, table-cases, peel-cases, peel-refusal}
 use Rattle.model.proofs.Count.{test-true, test-false, some-holds, some-witness, or-left, or-right}
 use Rattle.model.proofs.Chain.{first-nil, first-here, first-skip, enough, not-less}
 use Rattle.refusals.proofs.Chain.{table-first, table-rest, table-long}
@@ -36,12 +36,13 @@ peel-long h operators rides presence marks n =
     )
 
 -- what `short_peel` and `table_number` give
-module _ (h : Head) (operators rides presence marks : List ℕ) (short : Bool) (s : short ≡ short-parts h operators rides presence marks) (k : ℕ) (t : k ≡ first-number (table-cases h short operators rides)) where
+pub lent-table : (h : Head) (operators rides presence marks : List ℕ) (short : Bool) → short ≡ short-parts h operators rides presence marks → (k : ℕ) → k ≡ first-number (table-cases h short operators rides) → k ≡ first-number (peel-cases h operators rides presence marks)
+lent-table h operators rides presence marks short s k t = t ∙ ap (λ (b : Bool). first-number (table-cases h b operators rides)) s
+
+-- what `lent_number` gives
+module _ (h : Head) (operators rides presence marks : List ℕ) (k : ℕ) (table : k ≡ first-number (peel-cases h operators rides presence marks)) where
   abbrev behind : List (ℕ × Bool)
   behind = (12, refused-12 h marks) ∷ []
-
-  table : k ≡ first-number (table-cases h (short-parts h operators rides presence marks) operators rides)
-  table = t ∙ ap (λ (b : Bool). first-number (table-cases h b operators rides)) s
 
   pub peel-table : k ≢ 0 → k ≡ peel-refusal h operators rides presence marks
   unfolding peel-refusal
