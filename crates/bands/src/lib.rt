@@ -1,11 +1,12 @@
 // A crowd table: the numbers 16 to 18, and the limits of the band that a guest count falls in. All of it over the table's words, four a band.
 ghost use mathlib.Core.Path.{_≡_};
-ghost use Prim.Native.Nat.{ℕ, _≤_, _<_};
-ghost use lib.ListN.{length};
+ghost use mathlib.Core.Bool.{_&&_, _||_};
+ghost use Prim.Native.Nat.{ℕ, suc, _-_, _≤_, _<_};
+ghost use lib.Dec.{ltb, leb};
 ghost use Rattle.model.specs.declared.Bands.{Bands as Table};
 ghost use Rattle.model.specs.Count.{some, lowest};
-ghost use Rattle.model.specs.Crowd.{board-crowd-limits};
-ghost use Rattle.bands.specs.Bands.{first-of, last-of, WordsUpTo, malformed-at, share, shares-earlier as shares-one, widths as added-up, falls-at};
+ghost use Rattle.model.specs.Crowd.{most-guests, board-crowd-limits};
+ghost use Rattle.bands.specs.Bands.{first-of, last-of, WordsUpTo, malformed-at, shares-earlier as shares-one, widths as added-up, falls-at};
 use model::Bands;
 use model::CrowdLimits;
 
@@ -26,20 +27,33 @@ pub fn words(bands: Bands) -> [u16; 32]
     all
 }
 
-// Whether the first count of one of n bands exceeds its last, or its last is above 20,000.
+// Whether the first count of a band exceeds its last, or its last is above 20,000.
+fn is_malformed(first: u16, last: u16) -> bool
+    ensures { λ r. ⌜ r ≡ (ltb last first || ltb most-guests last) ⌝ }
+{
+    last < first || 20000 < last
+}
+
+// Whether one of n bands is malformed.
 fn malformed(words: &[u16; 32], n: usize) -> bool
     requires { ⌜ n ≤ 8 ⌝ }
     ensures { λ r. ⌜ r ≡ some n (malformed-at (now (words .entry))) ⌝ }
 {
     let mut i = 0;
     while i < n {
-        let last = words[i * 4 + 1];
-        if last < words[i * 4] || 20000 < last {
+        if is_malformed(words[i * 4], words[i * 4 + 1]) {
             return true;
         }
         i += 1;
     }
     false
+}
+
+// Whether two bands share a guest count.
+fn share(first: u16, last: u16, other_first: u16, other_last: u16) -> bool
+    ensures { λ r. ⌜ r ≡ (leb first «other_last» && leb «other_first» last) ⌝ }
+{
+    first <= other_last && other_first <= last
 }
 
 // Whether band i shares a guest count with one before it.
@@ -51,7 +65,7 @@ fn shares_earlier(words: &[u16; 32], i: usize) -> bool
     let last = words[i * 4 + 1];
     let mut j = 0;
     while j < i {
-        if first <= words[j * 4 + 1] && words[j * 4] <= last {
+        if share(first, last, words[j * 4], words[j * 4 + 1]) {
             return true;
         }
         j += 1;
@@ -64,7 +78,7 @@ fn overlap(words: &[u16; 32], n: usize) -> bool
     requires { ⌜ n ≤ 8 ⌝ }
     ensures { λ r. ⌜ r ≡ some n (shares-one (now (words .entry))) ⌝ }
 {
-    let mut i = 1;
+    let mut i = 0;
     while i < n {
         if shares_earlier(words, i) {
             return true;
@@ -72,6 +86,14 @@ fn overlap(words: &[u16; 32], n: usize) -> bool
         i += 1;
     }
     false
+}
+
+// The guest counts of a band.
+fn width(first: u16, last: u16) -> u32
+    requires { ⌜ first ≤ last ⌝ }
+    ensures { λ r. ⌜ (r ≡ suc last - first) × (r ≤ 65536) ⌝ }
+{
+    (last - first) as u32 + 1
 }
 
 // The guest counts of n bands, added up.
@@ -82,10 +104,17 @@ fn widths(words: &[u16; 32], n: usize) -> u32
     let mut sum: u32 = 0;
     let mut i = 0;
     while i < n {
-        sum += (words[i * 4 + 1] - words[i * 4]) as u32 + 1;
+        sum += width(words[i * 4], words[i * 4 + 1]);
         i += 1;
     }
     sum
+}
+
+// Whether a guest count falls in a band.
+fn falls_in(first: u16, last: u16, guests: u16) -> bool
+    ensures { λ r. ⌜ r ≡ (leb first guests && leb guests last) ⌝ }
+{
+    first <= guests && guests <= last
 }
 
 // The first of n bands that a guest count falls in; n where there is none.
@@ -95,7 +124,7 @@ pub fn place_of(words: &[u16; 32], n: usize, guests: u16) -> usize
 {
     let mut i = 0;
     while i < n {
-        if words[i * 4] <= guests && guests <= words[i * 4 + 1] {
+        if falls_in(words[i * 4], words[i * 4 + 1], guests) {
             return i;
         }
         i += 1;
