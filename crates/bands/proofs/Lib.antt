@@ -1,2 +1,4 @@
 pub mod Loops
 pub mod Stored
+pub mod Sums
+pub mod Table
