@@ -6,7 +6,7 @@ ghost use lib.Dec.{ltb, leb};
 ghost use Rattle.model.specs.declared.Bands.{Bands as Table};
 ghost use Rattle.model.specs.Count.{some, lowest};
 ghost use Rattle.model.specs.Crowd.{most-guests, board-crowd-limits};
-ghost use Rattle.bands.specs.Bands.{first-of, last-of, WordsUpTo, malformed-at, shares-earlier as shares-one, widths as added-up, falls-at};
+ghost use Rattle.bands.specs.Bands.{first-of, last-of, alpha-of, beta-of, WordsUpTo, malformed-at, shares-earlier as shares-one, widths as added-up, falls-at};
 use model::Bands;
 use model::CrowdLimits;
 
@@ -150,14 +150,40 @@ fn refused(number: u16) -> Found
     }
 }
 
+// The limits of band i.
+fn limits_at(words: &[u16; 32], i: usize) -> Found
+    requires { ⌜ i < 8 ⌝ }
+    ensures { λ r. ⌜ r ≡ record { alpha = alpha-of (now (words .entry)) i; beta = beta-of (now (words .entry)) i; number = 0 } ⌝ }
+{
+    Found {
+        alpha: words[i * 4 + 2],
+        beta: words[i * 4 + 3],
+        number: 0,
+    }
+}
+
+// Whether a count of bands is outside 1 to 8, or a guest count above 20,000.
+fn out_of_range(count: u16, guests: u16) -> bool
+    ensures { λ r. ⌜ r ≡ (ltb count 1 || ltb 8 count || ltb most-guests guests) ⌝ }
+{
+    if count < 1 {
+        return true;
+    }
+    if 8 < count {
+        return true;
+    }
+    20000 < guests
+}
+
 // The limits of the band that a guest count falls in. Bands that share no guest count have a gap where they have fewer than 20,001 together.
 pub fn find(count: u16, words: &[u16; 32], guests: u16) -> Found
+    requires { ⌜ ((t : Table) × (t .count ≡ count) × WordsUpTo 8 t (now words)) ⌝ }
     ensures { λ r. ⌜
         ((t : Table) → t .count ≡ count → WordsUpTo 8 t (now (words .entry)) →
         record { code = r .number; alpha = r .alpha; beta = r .beta } ≡ board-crowd-limits t guests)
         ⌝ }
 {
-    if count < 1 || 8 < count || 20000 < guests {
+    if out_of_range(count, guests) {
         return refused(16);
     }
     let n = count as usize;
@@ -170,12 +196,7 @@ pub fn find(count: u16, words: &[u16; 32], guests: u16) -> Found
     if widths(words, n) < 20001 {
         return refused(18);
     }
-    let i = place_of(words, n, guests);
-    Found {
-        alpha: words[i * 4 + 2],
-        beta: words[i * 4 + 3],
-        number: 0,
-    }
+    limits_at(words, place_of(words, n, guests))
 }
 
 // The limits of the band that a guest count falls in.

@@ -174,19 +174,19 @@ module _ (t : Bands) where
     code = board-crowd-limits t guests .code
 
     -- the number by the first test that applies
-    code-16 : T (refused-16 t guests) → code ≡ 16
+    pub refusal-16 : T (refused-16 t guests) → crowd-refusal t guests ≡ 16
     unfolding crowd-refusal
-    code-16 r = limits-code 16 (first-here 16 (refused-16 t guests) _ r)
+    refusal-16 r = first-here 16 (refused-16 t guests) _ r
 
-    code-17 : (T (refused-16 t guests) → ⊥) → T (refused-17 t) → code ≡ 17
+    pub refusal-17 : (T (refused-16 t guests) → ⊥) → T (refused-17 t) → crowd-refusal t guests ≡ 17
     unfolding crowd-refusal
-    code-17 n r = limits-code 17 (first-skip 16 (refused-16 t guests) _ n ∙ first-here 17 (refused-17 t) _ r)
+    refusal-17 n r = first-skip 16 (refused-16 t guests) _ n ∙ first-here 17 (refused-17 t) _ r
 
-    code-18 : (T (refused-16 t guests) → ⊥) → (T (refused-17 t) → ⊥) → T (refused-18 t) → code ≡ 18
+    pub refusal-18 : (T (refused-16 t guests) → ⊥) → (T (refused-17 t) → ⊥) → T (refused-18 t) → crowd-refusal t guests ≡ 18
     unfolding crowd-refusal
-    code-18 n m r = limits-code 18 (first-skip 16 (refused-16 t guests) _ n ∙ first-skip 17 (refused-17 t) _ m ∙ first-here 18 (refused-18 t) _ r)
+    refusal-18 n m r = first-skip 16 (refused-16 t guests) _ n ∙ first-skip 17 (refused-17 t) _ m ∙ first-here 18 (refused-18 t) _ r
 
-    refusal-none : (T (refused-16 t guests) → ⊥) → (T (refused-17 t) → ⊥) → (T (refused-18 t) → ⊥) → crowd-refusal t guests ≡ 0
+    pub refusal-none : (T (refused-16 t guests) → ⊥) → (T (refused-17 t) → ⊥) → (T (refused-18 t) → ⊥) → crowd-refusal t guests ≡ 0
     unfolding crowd-refusal
     refusal-none n m o = first-skip 16 (refused-16 t guests) _ n ∙ first-skip 17 (refused-17 t) _ m ∙ first-skip 18 (refused-18 t) _ o ∙ first-nil
 
@@ -199,10 +199,10 @@ module _ (t : Bands) where
         C
     by-code a b c d =
         by-test (refused-16 t guests)
-        (λ r. a r (code-16 r))
+        (λ r. a r (limits-code 16 (refusal-16 r)))
         (λ n. by-test (refused-17 t)
-        (λ r. b n r (code-17 n r))
-        (λ m. by-test (refused-18 t) (λ r. c n m r (code-18 n m r)) (λ o. d n m o (refusal-none n m o))))
+        (λ r. b n r (limits-code 17 (refusal-17 n r)))
+        (λ m. by-test (refused-18 t) (λ r. c n m r (limits-code 18 (refusal-18 n m r))) (λ o. d n m o (refusal-none n m o))))
 
     pub taken-one : crowd-refusal t guests ≡ 0 → Formed t × (guests ≤ most-guests) × ((c : ℕ) → c ≤ most-guests → InOneBand t c)
     taken-one e =
@@ -256,7 +256,7 @@ crowd-limits-laws t guests =
             (λ n r k. let f = passes-formed t guests n in (f .0, f .1, refused-overlap t r))
             (λ n m r k. absurd (other t guests 17 18 e k (λ q. omega arith)))
             (λ n m o k. absurd (other t guests 17 0 e (limits-code t guests 0 k) (λ q. omega arith))),
-        λ a. code-17 t guests (formed-passes t guests (a .0) (a .1)) (overlap-refused t (a .2)),
+        λ a. limits-code t guests 17 (refusal-17 t guests (formed-passes t guests (a .0) (a .1)) (overlap-refused t (a .2))),
       );
       eighteen = (
         λ e. by-code t guests
@@ -264,7 +264,7 @@ crowd-limits-laws t guests =
             (λ n r k. absurd (other t guests 18 17 e k (λ q. omega arith)))
             (λ n m r k. let f = passes-formed t guests n in (f .0, f .1, λ o. m (overlap-refused t o), refused-gap t r))
             (λ n m o k. absurd (other t guests 18 0 e (limits-code t guests 0 k) (λ q. omega arith))),
-        λ a. code-18 t guests (formed-passes t guests (a .0) (a .1)) (λ r. a .2 (refused-overlap t r)) (gap-refused t (a .3)),
+        λ a. limits-code t guests 18 (refusal-18 t guests (formed-passes t guests (a .0) (a .1)) (λ r. a .2 (refused-overlap t r)) (gap-refused t (a .3))),
       );
       alpha = λ e i f. let z = code-refusal t guests 0 e in ap (λ (l : CrowdLimits). l .alpha) (limits-taken t guests z) ∙ ap (λ (k : ℕ). band t k .alpha) (band-found t guests z i f);
       beta = λ e i f. let z = code-refusal t guests 0 e in ap (λ (l : CrowdLimits). l .beta) (limits-taken t guests z) ∙ ap (λ (k : ℕ). band t k .beta) (band-found t guests z i f);
