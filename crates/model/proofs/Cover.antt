@@ -82,7 +82,7 @@ module _ (g : Graph) (limit : ℕ → ℕ) where
   unfolding cover-under
   under-length = length-peel g limit (nodes g) ones ∙ length-replicate (nodes g) 1
 
-  under-bits : (x : ℕ) → x < nodes g → getD (cover-under g limit) x 0 ≤ 1
+  pub under-bits : (x : ℕ) → x < nodes g → getD (cover-under g limit) x 0 ≤ 1
   unfolding cover-under
   under-bits x h = omega (arith, peel-least g limit (nodes g) ones x, all-ones g x h)
 
@@ -93,6 +93,21 @@ module _ (g : Graph) (limit : ℕ → ℕ) where
       (λ x h.
       let k : x < nodes g = omega arith in
       bit-of (getD s x 0) (bits x k) ∙ ap bit (peel-laws .only g limit everybody (marked s) (marked c) l under-largest x k) ∙ sym (bit-of (getD c x 0) (under-bits x k)))
+
+-- a largest set under limits is one under limits that are the same for every node
+largest-under : (g : Graph) (limit limit′ : ℕ → ℕ) → ((x : ℕ) → x < nodes g → limit x ≡ limit′ x) → (start s : ℕ → Bool) → Largest g limit start s → Largest g limit′ start s
+largest-under g limit limit′ same start s l =
+    record {
+      inside = l .inside;
+      meets = λ x h t. omega (arith, l .meets x h t, same x h);
+      largest = λ r i m. l .largest r i (λ x h t. omega (arith, m x h t, same x h));
+    }
+
+-- so that limits past the nodes don't matter
+pub under-same : (g : Graph) (limit limit′ : ℕ → ℕ) → ((x : ℕ) → x < nodes g → limit x ≡ limit′ x) → cover-under g limit ≡ cover-under g limit′
+under-same g limit limit′ same =
+    under-only g limit′ (cover-under g limit) (under-length g limit) (under-bits g limit)
+    (largest-under g limit limit′ same everybody (marked (cover-under g limit)) (under-largest g limit))
 
 pub cover-under-laws : CoverUnderLaws
 cover-under-laws = record { largest = under-largest; only = under-only }

@@ -7,7 +7,7 @@ use Prim.Native.Nat.{ℕ, zero, suc, _+_, _≤_, _<_}
 use native.Mathlib.Omega.{arith}
 use native.Mathlib.Decide.{ℕ-discrete}
 use lib.Dec.{T, ltb}
-use lib.ListN.{length, drop}
+use lib.ListN.{length, getD, drop}
 use lib.Seq.{drop-at}
 use Rattle.model.specs.declared.Head.{Head}
 use Rattle.model.specs.declared.Counts.{Counts}
@@ -21,10 +21,11 @@ use Rattle.model.specs.Calls.{QueryOutcome, query-marks, counts, shown, 
 use Rattle.model.specs.Crowd.{crowd-cases, crowd-refusal, band-for, board-crowd-limits, present-cover, crowd-cover-refusal, board-crowd-cover}
 use Rattle.model.specs.Demand.{IsCore, CrowdCoverLaws}
 use Rattle.model.proofs.Count.{or-left, or-right, bit-le, length-values, getD-values}
-use Rattle.model.proofs.Cover.{cover-under-laws, under-length}
+use Rattle.model.proofs.Cover.{under-length, under-bits, under-same, cover-under-laws}
 use Rattle.model.proofs.Presence.{largest-inside, inside-largest}
 use Rattle.model.proofs.Query.{query-in, query-is-core}
-use Rattle.model.proofs.Chain.{Positive, first-front, first-behind, first-split, first-none, enough}
+use Rattle.model.proofs.Chain.{Positive, first-front, first-behind, first-split}
+use Rattle.model.proofs.Refusal.{peel-lent}
 use Rattle.model.proofs.CrowdTable.{limits-code, limits-taken}
 use Rattle.model.proofs.EndToEnd.{shown-core, query-shown}
 
@@ -41,6 +42,15 @@ module _ (h : Head) (operators rides presence : List ℕ) (α β : ℕ) where
   unfolding present-cover
   present-cover-length = under-length g (peel-limits h presence α β)
 
+  pub present-cover-bits : (x : ℕ) → x < mark-places h → getD found x 0 ≤ 1
+  unfolding present-cover
+  present-cover-bits = under-bits g (peel-limits h presence α β)
+
+  -- under a list of limits, of which those of nodes alone matter
+  pub present-cover-under : (limit : ℕ → ℕ) → ((x : ℕ) → x < mark-places h → limit x ≡ peel-limits h presence α β x) → cover-under g limit ≡ found
+  unfolding present-cover
+  present-cover-under limit = under-same g limit (peel-limits h presence α β)
+
   pub present-cover-core : CoreInside g (present presence) α β (marked found)
   unfolding present-cover
   present-cover-core = largest-inside g (present presence) (limits (h .operators) α β) everybody (marked found) (cover-under-laws .largest g (peel-limits h presence α β))
@@ -55,21 +65,6 @@ module _ (h : Head) (operators rides presence : List ℕ) (α β : ℕ) where
       (inside-largest g (present presence) (limits (h .operators) α β) everybody (marked (query-marks h (index-of g) presence α β)) (query-is-core h (listed (h .pairs) operators rides) presence α β))
 
 -- ---- its number
-
--- where none of 1 to 5 applies, sizes are in bounds, and presence words and marks long enough
-peel-lent : (h : Head) (operators rides presence marks : List ℕ) → first-number (peel-cases h operators rides presence marks) ≡ 0 → (h .operators ≤ 200) × (h .rides ≤ 60) × (mark-places h ≤ length presence) × (mark-places h ≤ length marks)
-peel-lent h operators rides presence marks e =
-    let o : Bool = refused-3 (pair-places h) operators || refused-3 (pair-places h) rides in
-    let p : Bool = refused-3 (mark-places h) presence in
-    let m : Bool = refused-3 (mark-places h) marks in
-    let n1 = first-none 0 (refused-1 h) _ e in
-    let n2 = first-none 1 (refused-2 h) _ (n1 .1) in
-    let n3 = first-none 2 (o || p || m) _ (n2 .1) in (
-      enough 200 (h .operators) (n1 .0),
-      enough 60 (h .rides) (n2 .0),
-      enough (length presence) (mark-places h) (λ t. n3 .0 (or-left (o || p) m (or-right o p t))),
-      enough (length marks) (mark-places h) (λ t. n3 .0 (or-right (o || p) m t)),
-    )
 
 positive-peel : (h : Head) (operators rides presence marks : List ℕ) → Positive (peel-cases h operators rides presence marks)
 positive-peel h operators rides presence marks = (omega arith, (omega arith, (omega arith, (omega arith, (omega arith, tt)))))
@@ -108,11 +103,11 @@ module _ (h : Head) (operators rides presence : List ℕ) (t : Bands) (guests : 
       go zero e = absurd (n (cover-code 0 e))
       go (suc k) e = subst P (sym (cover-refused k e)) (f k)
 
-  number-front : first-number cases ≢ 0 → number ≡ first-number cases
+  pub number-front : first-number cases ≢ 0 → number ≡ first-number cases
   unfolding crowd-cover-refusal
   number-front = first-front (crowd-cases t guests) cases (positive-peel h operators rides presence marks)
 
-  number-behind : first-number cases ≡ 0 → number ≡ crowd-refusal t guests
+  pub number-behind : first-number cases ≡ 0 → number ≡ crowd-refusal t guests
   unfolding crowd-cover-refusal crowd-refusal
   number-behind = first-behind (crowd-cases t guests) cases (positive-peel h operators rides presence marks)
 
@@ -133,12 +128,12 @@ module _ (h : Head) (operators rides presence : List ℕ) (t : Bands) (guests : 
   -- and a query for them on an index of the same pairs gives the same
   taken-query : (more : List ℕ) → number ≡ 0 → board-query h (index-of (counting-graph h operators rides presence) ++ more) presence (board-crowd-limits t guests .alpha) (board-crowd-limits t guests .beta) marks ≡ outcome
   taken-query more e =
-      let lent = peel-lent h operators rides presence marks (number-split e .0) in
+      let lent = peel-lent h operators rides presence marks [] (number-split e .0) .0 in
       let g : Graph = counting-graph h operators rides presence in
       let α : ℕ = band-for t guests .alpha in
       let β : ℕ = band-for t guests .beta in
       ap (λ (l : CrowdLimits). board-query h (index-of g ++ more) presence (l .alpha) (l .beta) marks) (limits-taken t guests (number-split e .1)) ∙
-      query-shown h (listed (h .pairs) operators rides) presence more α β marks (lent .0) (lent .1) (lent .2) (lent .3) ∙
+      query-shown h (listed (h .pairs) operators rides) presence more α β marks (lent .few-operators) (lent .few-rides) (lent .presence-long) (lent .marks-long) ∙
       ap (λ (s : List ℕ). shown h s marks) (query-cover h operators rides presence α β) ∙
       sym (cover-taken e)
 

@@ -10,6 +10,7 @@ use native.Mathlib.Nat.{suc-mul, mul-le-mul-right}
 use lib.Dec.{T, ltb, eqb, ltb→lt}
 use lib.ListN.{length, getD, drop, length-append, List·getD-append}
 use Rattle.model.specs.declared.Head.{Head}
+use Rattle.model.specs.declared.Counts.{Counts}
 use Rattle.model.specs.Count.{bit, values}
 use Rattle.model.specs.Graph.{Graph, nodes, Largest, limits, CoreInside, marked, present, counting, settled, peel, level, row-for, in-by-level, index-of}
 use Rattle.model.specs.Layout.{Operators, Rides, Index, Presence, Board, pair-places, mark-places, index-places, over, sized, counting-graph, listed-graph, board-graph}
@@ -80,8 +81,15 @@ module _ (b : Board) (start : ℕ) (none : build-refusal b start ≡ 0) where
 
 -- the lent marks show what was set
 module _ (h : Head) (new marks : List ℕ) (long : length new ≡ mark-places h) where
-  marked-over : (x : ℕ) → x < mark-places h → marked new x ≡ marked (over new marks) x
+  pub marked-over : (x : ℕ) → x < mark-places h → marked new x ≡ marked (over new marks) x
   marked-over x l = ap (λ (z : ℕ). eqb z 1) (sym (List·getD-append new (drop (length new) marks) 0 x (omega (arith, long))))
+
+  pub counts-over : counts h (over new marks) ≡ counts h new
+  unfolding counts
+  counts-over =
+      let of-operators = count-ext (marked (over new marks)) (marked new) (h .operators) (λ x l. sym (marked-over x (omega arith))) in
+      let of-rides = count-ext (λ (v : ℕ). marked (over new marks) (h .operators + v)) (λ (v : ℕ). marked new (h .operators + v)) (h .rides) (λ v l. sym (marked-over (h .operators + v) (omega arith))) in
+      λ i. record { code = 0; operators = of-operators i; rides = of-rides i }
 
 -- the core, shown over the marks that came in, with its sizes
 pub shown-core : (h : Head) (c : ℕ → ℕ → Bool) (here : ℕ → Bool) (α β : ℕ) (new marks : List ℕ) → length new ≡ mark-places h → CoreInside (sized h c) here α β (marked new) → IsCore (sized h c) here α β (shown h new marks)
@@ -90,8 +98,8 @@ shown-core h c here α β new marks long core =
     record {
       code = refl;
       core = largest-ext (sized h c) (limits (h .operators) α β) here (marked new) (marked (over new marks)) (marked-over h new marks long) core;
-      operators = count-ext (marked new) (marked (over new marks)) (h .operators) (λ x l. marked-over h new marks long x (omega arith));
-      rides = count-ext (λ (v : ℕ). marked new (h .operators + v)) (λ (v : ℕ). marked (over new marks) (h .operators + v)) (h .rides) (λ v l. marked-over h new marks long (h .operators + v) (omega arith));
+      operators = sym (ap (λ (c : Counts). c .operators) (counts-over h new marks long));
+      rides = sym (ap (λ (c : Counts). c .rides) (counts-over h new marks long));
     }
 
 marks-long : (h : Head) (index presence : List ℕ) (α β : ℕ) → length (query-marks h index presence α β) ≡ mark-places h

@@ -4,6 +4,7 @@ use mathlib.Core.Logic.{_≢_}
 use mathlib.Core.Bool.{Bool, true, false, _||_}
 use mathlib.Core.List.{List, [], _∷_}
 use Prim.Native.Nat.{ℕ, _≤_, _<_}
+use native.Mathlib.Omega.{arith}
 use lib.Dec.{T, ltb, lt→ltb}
 use borrow.Author.Tests.{lt-ltb, le-ltb}
 use lib.ListN.{length, getD}
@@ -13,6 +14,8 @@ use Rattle.model.specs.Layout.{pair-places, mark-places}
 use Rattle.model.specs.Refusal.{refused-3, refused-12, first-number, table-cases, peel-cases, peel-refusal}
 use Rattle.model.proofs.Count.{test-true, test-false, some-holds, some-witness, or-left, or-right}
 use Rattle.model.proofs.Chain.{first-nil, first-here, first-skip, enough, not-less}
+use Rattle.model.proofs.Refusal.{PeelLent}
+use Rattle.pairs.specs.Accepted.{AcceptedPairs}
 use Rattle.refusals.proofs.Chain.{table-first, table-rest, table-long}
 
 -- ---- peel
@@ -34,6 +37,17 @@ peel-long h operators rides presence marks n =
       enough (length presence) (mark-places h) (λ t. n (or-left (o || r || p) m (or-right (o || r) p t))),
       enough (length marks) (mark-places h) (λ t. n (or-right (o || r || p) m t)),
     )
+
+-- the pairs that a peel is lent, where 1 to 5 don't apply
+pub lent-pairs : (h : Head) (operators rides presence marks : List ℕ) → PeelLent h operators rides presence marks → AcceptedPairs h operators rides
+lent-pairs h operators rides presence marks l =
+    record {
+      few-operators = l .few-operators;
+      few-rides = l .few-rides;
+      operators-long = omega (arith, l .pairs-few, l .operators-long);
+      rides-long = omega (arith, l .pairs-few, l .rides-long);
+      ordered = l .ordered;
+    }
 
 -- what `short_peel` and `table_number` give
 pub lent-table : (h : Head) (operators rides presence marks : List ℕ) (short : Bool) → short ≡ short-parts h operators rides presence marks → (k : ℕ) → k ≡ first-number (table-cases h short operators rides) → k ≡ first-number (peel-cases h operators rides presence marks)

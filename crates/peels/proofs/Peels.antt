@@ -1,21 +1,21 @@
 -- A peel: refused, or the whole outcome. Assumes nothing.
 use mathlib.Core.Path.{_≡_, refl, sym, ap₂}
 use mathlib.Core.Logic.{_≢_}
-use mathlib.Core.List.{List}
+use mathlib.Core.List.{List, [], _∷_}
 use Prim.Native.Nat.{ℕ, zero, suc, _≤_, _<_}
-use native.Mathlib.Omega.{arith}
 use lib.Dec.{T, ltb}
 use lib.ListN.{length, getD}
 use Rattle.model.specs.declared.Head.{Head}
 use Rattle.model.specs.declared.Peeled.{Peeled}
-use Rattle.model.specs.Layout.{pair-places, mark-places, counting-graph}
-use Rattle.model.specs.Refusal.{refused-1, refused-2, refused-4, refused-5, refused-12, peel-refusal}
+use Rattle.model.specs.Layout.{mark-places, counting-graph}
+use Rattle.model.specs.Refusal.{refused-12, peel-refusal}
 use Rattle.model.specs.Calls.{peeled, peel-limits, board-peel}
 use Rattle.model.proofs.Count.{some-holds}
 use Rattle.model.proofs.Chain.{first-none, enough}
+use Rattle.model.proofs.Refusal.{peel-lent}
 use Rattle.pairs.specs.Accepted.{AcceptedPairs}
 use Rattle.pair_peels.specs.Peel.{Gives}
-use Rattle.peel_refusals.proofs.Chain.{short-parts, peel-long}
+use Rattle.peel_refusals.proofs.Chain.{lent-pairs}
 use Rattle.model.specs.Outcome.{peel-left}
 
 module _ (h : Head) (operators rides presence marks : List ℕ) where
@@ -38,22 +38,5 @@ module _ (h : Head) (operators rides presence marks : List ℕ) where
     pub peel-accepted : AcceptedPairs h operators rides × (mark-places h ≤ length presence) × (mark-places h ≤ length marks) × ((x : ℕ) → x < mark-places h → getD marks x 0 ≤ 1)
     unfolding peel-refusal
     peel-accepted =
-        let n1 = first-none 0 (refused-1 h) _ none in
-        let n2 = first-none 1 (refused-2 h) _ (n1 .1) in
-        let n3 = first-none 2 (short-parts h operators rides presence marks) _ (n2 .1) in
-        let n4 = first-none 3 (refused-4 h) _ (n3 .1) in
-        let n5 = first-none 4 (refused-5 h operators rides) _ (n4 .1) in
-        let n6 = first-none 11 (refused-12 h marks) _ (n5 .1) in
-        let l = peel-long h operators rides presence marks (n3 .0) in
-        let fit = enough (pair-places h) (h .pairs) (n4 .0) in (
-          record {
-            few-operators = enough 200 (h .operators) (n1 .0);
-            few-rides = enough 60 (h .rides) (n2 .0);
-            operators-long = omega (arith, fit, l .0);
-            rides-long = omega (arith, fit, l .1);
-            ordered = n5 .0;
-          },
-          l .2,
-          l .3,
-          marks-fit (n6 .0),
-        )
+        let l = peel-lent h operators rides presence marks ((12, refused-12 h marks) ∷ []) none in
+        (lent-pairs h operators rides presence marks (l .0), l .0 .presence-long, l .0 .marks-long, marks-fit (first-none 11 (refused-12 h marks) [] (l .1) .0))
