@@ -10,9 +10,10 @@
  * ALPHA may be 0, no limit. BETA is from 1: under no limit each ride would get a permit, also one without operators.
  *
  * A line of the trace is `KIND OPERATOR RIDE REVISION STAMP`, all numbers, kind 1 a grant, 2 a withdrawal, 3 operator
- * on, 4 operator off, 5 ride in, 6 ride out; what follows a # is a comment. At the end the same messages are given to a
- * second board in the order of their stamps and revisions, as one message list. Exit status 0 says that the two boards
- * are the same, word for word.
+ * on, 4 operator off, 5 ride in, 6 ride out; what follows a # is a comment. After the last message the permits for a
+ * quiet and for a busy guest count are printed, by a table of bands, and the answer to a table with an overlap. At the
+ * end the same messages are given to a second board in the order of their stamps and revisions, as one message list.
+ * Exit status 0 says that the two boards are the same, word for word.
  */
 #include <stdio.h>
 #include <stdlib.h>
@@ -36,6 +37,10 @@ static Board arriving = BOARD_OVER(arriving_memory, OPERATORS, RIDES, PAIRS);
 static Board in_order = BOARD_OVER(in_order_memory, OPERATORS, RIDES, PAIRS);
 static Board spare = BOARD_OVER(spare_memory, OPERATORS, RIDES, 0);
 
+/* Limits by crowd: first and last guest count, alpha, beta. In the second table both bands have guest count 8,000. */
+static const BoardBand day[] = {{8001, 20000, 2, 3}, {0, 8000, 1, 2}};
+static const BoardBand overlapping[] = {{8000, 20000, 2, 3}, {0, 8000, 1, 2}};
+
 static BoardMessage trace[MESSAGES_MOST];
 static uint16_t answers[BOARD_ANSWER_PLACES(MESSAGES_MOST)];
 static uint16_t marks[BOARD_MARK_PLACES(OPERATORS, RIDES)], peeled[BOARD_MARK_PLACES(OPERATORS, RIDES)];
@@ -50,6 +55,20 @@ static void check(uint16_t code) {
         stop(board_text(code));
 }
 
+static void check_beta(uint16_t beta) {
+    if (beta == 0)
+        stop("beta is 0, no limit: a permit needs a limit from 1");
+}
+
+static void print_rides(const char *when) {
+    printf("  %-8s", when);
+    for (unsigned ride = 0; ride < RIDES; ride++) {
+        int permit = marks[BOARD_RIDE_MARK(OPERATORS, ride)] == 1;
+        printf("   ride %u: %9s", ride, permit ? "permit" : "no permit");
+    }
+    printf("\n");
+}
+
 /* Whether each ride gets its dispatch permit. The marks are compared with a peel, which does not use the index. */
 static void print_permits(const char *when, const Board *board, uint16_t alpha, uint16_t beta) {
     check(board_query_on(board, alpha, beta, marks, BOARD_LENGTH(marks)).code);
@@ -58,12 +77,20 @@ static void print_permits(const char *when, const Board *board, uint16_t alpha, 
     check(board_peel_on(board, peeled, BOARD_LENGTH(peeled), alpha, beta, OPERATORS + RIDES).code);
     if (memcmp(marks, peeled, sizeof marks) != 0)
         stop("the board is damaged: its index is not that of its pairs that count");
-    printf("  %-8s", when);
-    for (unsigned ride = 0; ride < RIDES; ride++) {
-        int permit = marks[BOARD_RIDE_MARK(OPERATORS, ride)] == 1;
-        printf("   ride %u: %9s", ride, permit ? "permit" : "no permit");
+    print_rides(when);
+}
+
+/* Whether each ride gets its dispatch permit at a guest count. A crowd cover does not use the index either. */
+static void print_crowd(const Board *board, BoardBands bands, uint16_t guests) {
+    BoardCrowdLimits limits = board_crowd_limits(bands, guests);
+    if (limits.code != BOARD_DONE) {
+        printf("guests %u: %u, %s\n", guests, limits.code, board_text(limits.code));
+        return;
     }
-    printf("\n");
+    check_beta(limits.beta);
+    check(board_crowd_cover_on(board, bands, guests, marks, BOARD_LENGTH(marks)).code);
+    printf("guests %u: limits (%u,%u)\n", guests, limits.alpha, limits.beta);
+    print_rides("permits");
 }
 
 /* Which operators are on and which rides are in: those whose presence word is 1. */
@@ -212,8 +239,7 @@ int main(int count, char **words) {
         stop("usage: controller TRACE ALPHA BETA");
     size_t messages = read_trace(words[1]);
     uint16_t alpha = read_limit(words[2]), beta = read_limit(words[3]);
-    if (beta == 0)
-        stop("beta is 0, no limit: a permit needs a limit from 1");
+    check_beta(beta);
 
     check(board_build_on(&arriving, START));
     printf("board: %u operators, %u rides, %u pairs, built at stamp %u; limits (%u,%u)\n", arriving.head.operators,
@@ -229,6 +255,9 @@ int main(int count, char **words) {
         if (is_for_operator_or_ride(trace[i]))
             print_presence(&arriving);
     }
+    print_crowd(&arriving, board_bands(day, BOARD_LENGTH(day)), 1500);
+    print_crowd(&arriving, board_bands(day, BOARD_LENGTH(day)), 18000);
+    print_crowd(&arriving, board_bands(overlapping, BOARD_LENGTH(overlapping)), 18000);
 
     check(board_build_on(&in_order, START));
     qsort(trace, messages, sizeof trace[0], by_stamp);

@@ -1,8 +1,9 @@
 /*
  * The plain calls beside the functions over a Board: both ways on equal memory, with parts as long as needed, with one
- * part after another too short by a place, and with limits of 0. Query and peel come twice: after the build, with
- * everybody on and in, and after the list, with operator 1 off and ride 2 out. Prints what the calls answer. Exit
- * status 0 says that each answer and every lent word was the same both ways.
+ * part after another too short by a place, and with limits of 0. Query, peel and crowd cover come twice: after the
+ * build, with everybody on and in, and after the list, with operator 1 off and ride 2 out. The crowd cover finds the
+ * limits of the query in its table. At the end come look-ups in tables of no band to too many. Prints what the calls
+ * answer. Exit status 0 says that each answer and every lent word was the same both ways.
  */
 #include <stdio.h>
 #include <string.h>
@@ -15,6 +16,7 @@
 #define SAMPLE {{0, 0, 1, 1, 2, 2, 3}, {0, 1, 0, 1, 1, 2, 2}, {0}, {0}, {0}, {0}, {0}, {0}}
 #define MARKS BOARD_MARK_PLACES(OPERATORS, RIDES)
 #define MESSAGES 7
+#define GUESTS 8000
 
 BOARD_STORAGE(table, OPERATORS, RIDES) = SAMPLE;
 BOARD_STORAGE(memory, OPERATORS, RIDES);
@@ -33,6 +35,13 @@ static const BoardMessage list[MESSAGES] = {
     {BOARD_OPERATOR_OFF, 1, 2, 0, 30}, {BOARD_OPERATOR_OFF, 1, 0, 0, 10}, {BOARD_OPERATOR_ON, 1, 0, 0, 10},
     {BOARD_RIDE_OUT, 0, 2, 255, 10},
 };
+
+/* First and last guest count, alpha, beta. The first 8 are a table; the number of all has 8 in its last 16 bits. */
+static const BoardBand bands[65536 + 8] = {
+    {17500, 20000, 2, 4}, {0, 2499, 1, 0},      {15000, 17499, 2, 3}, {2500, 4999, 1, 1},
+    {5000, 7499, 1, 2},   {12500, 14999, 2, 2}, {7500, 9999, 1, 3},   {10000, 12499, 2, 1},
+};
+static const size_t band_counts[] = {0, 7, 8, 9, 65535, 65536, 65536 + 8};
 
 /* The lengths of a board's parts, in places. */
 typedef struct Lengths {
@@ -83,6 +92,8 @@ typedef struct Outcome {
     uint16_t queried[MARKS];
     BoardPeeled peel;
     uint16_t peeled[MARKS];
+    BoardCounts crowd;
+    uint16_t crowded[MARKS];
     BoardAnswer preview;
     BoardHead spare_head;
     BoardAnswer message;
@@ -92,6 +103,8 @@ typedef struct Outcome {
     uint16_t queried_again[MARKS];
     BoardPeeled peel_again;
     uint16_t peeled_again[MARKS];
+    BoardCounts crowd_again;
+    uint16_t crowded_again[MARKS];
 } Outcome;
 
 static const Outcome before = {
@@ -101,6 +114,8 @@ static const Outcome before = {
     {9, 9, 9, 9, 9, 9, 9},
     {0, 0, 0},
     {1, 1, 1, 1, 1, 1, 1},
+    {0, 0, 0},
+    {9, 9, 9, 9, 9, 9, 9},
     {0, 0},
     {9, 9, 9},
     {0, 0},
@@ -110,6 +125,8 @@ static const Outcome before = {
     {9, 9, 9, 9, 9, 9, 9},
     {0, 0, 0},
     {1, 1, 1, 1, 1, 1, 1},
+    {0, 0, 0},
+    {9, 9, 9, 9, 9, 9, 9},
 };
 
 /* Lends so many places of each part. */
@@ -125,6 +142,12 @@ static Board lend(Board board, Lengths n) {
     return board;
 }
 
+/* A table with the limits of the query for this guest count and more, and with others for fewer. */
+static BoardBands two_bands(const Given *given) {
+    BoardBand two[] = {{GUESTS, BOARD_GUESTS_MOST, given->alpha, given->beta}, {0, GUESTS - 1, 9, 9}};
+    return board_bands(two, BOARD_LENGTH(two));
+}
+
 static Outcome over_a_board(const Given *given) {
     Outcome out = before;
     Board whole = BOARD_OVER(memory, OPERATORS, RIDES, PAIRS), whole_spare = BOARD_OVER(spare_memory, 9, 9, 9);
@@ -132,12 +155,14 @@ static Outcome over_a_board(const Given *given) {
     out.build = board_build_on(&board, 10);
     out.query = board_query_on(&board, given->alpha, given->beta, out.queried, given->marks);
     out.peel = board_peel_on(&board, out.peeled, given->marks, given->alpha, given->beta, 2);
+    out.crowd = board_crowd_cover_on(&board, two_bands(given), GUESTS, out.crowded, given->marks);
     out.preview = board_preview_on(&board, grant, &spare);
     out.spare_head = spare.head;
     out.message = board_message_on(&board, grant);
     out.messages = board_messages_on(&board, list, MESSAGES, out.answers, given->answers);
     out.query_again = board_query_on(&board, given->alpha, given->beta, out.queried_again, given->marks);
     out.peel_again = board_peel_on(&board, out.peeled_again, given->marks, given->alpha, given->beta, 2);
+    out.crowd_again = board_crowd_cover_on(&board, two_bands(given), GUESTS, out.crowded_again, given->marks);
     out.head = board.head;
     return out;
 }
@@ -153,6 +178,8 @@ static Outcome plainly(const Given *given) {
                             out.queried, given->marks);
     out.peel = board_peel(out.head, other.operators, n.operators, other.rides, n.rides, other.presence, n.presence,
                           out.peeled, given->marks, given->alpha, given->beta, 2);
+    out.crowd = board_crowd_cover(out.head, other.operators, n.operators, other.rides, n.rides, other.presence,
+                                  n.presence, two_bands(given), GUESTS, out.crowded, given->marks);
     out.preview = board_preview(
         out.head, other.operators, n.operators, other.rides, n.rides, other.stamps, n.stamps, other.revisions,
         n.revisions, other.index, n.index, other.presence_stamps, n.presence_stamps, other.presence_revisions,
@@ -172,28 +199,31 @@ static Outcome plainly(const Given *given) {
                                   given->beta, out.queried_again, given->marks);
     out.peel_again = board_peel(out.head, other.operators, n.operators, other.rides, n.rides, other.presence,
                                 n.presence, out.peeled_again, given->marks, given->alpha, given->beta, 2);
+    out.crowd_again = board_crowd_cover(out.head, other.operators, n.operators, other.rides, n.rides, other.presence,
+                                        n.presence, two_bands(given), GUESTS, out.crowded_again, given->marks);
     return out;
 }
 
-static void print_marked(BoardCounts query, BoardPeeled peel) {
+static void print_marked(BoardCounts query, BoardPeeled peel, BoardCounts crowd) {
     printf(" %6u: %u + %u %6u: %5u", query.code, query.operators, query.rides, peel.code, peel.steps);
+    printf(" %6u: %u + %u", crowd.code, crowd.operators, crowd.rides);
 }
 
 static void print_outcome(const char *title, const Outcome *out, int same) {
     printf("%-30s %5u", title, out->build);
-    print_marked(out->query, out->peel);
-    printf(" %8u: %5u %8u: %5u %5u:", out->preview.code, out->preview.differ, out->message.code, out->message.differ,
+    print_marked(out->query, out->peel, out->crowd);
+    printf("  %8u: %5u %8u: %5u %5u:", out->preview.code, out->preview.differ, out->message.code, out->message.differ,
            out->messages);
     for (size_t i = 0; i < MESSAGES; i++)
         printf(" %2u", out->answers[i]);
-    print_marked(out->query_again, out->peel_again);
+    print_marked(out->query_again, out->peel_again, out->crowd_again);
     printf("   %s\n", same ? "the same" : "ANOTHER");
 }
 
 int main(void) {
     int differs = 0;
-    printf("%-30s build  query: marked  peel: steps  preview: words  message: words  list: answers", "");
-    printf("           query: marked  peel: steps\n");
+    printf("%-30s build  query: marked  peel: steps  crowd: marked  preview: words  message: words", "");
+    printf("  list: answers               query: marked  peel: steps  crowd: marked\n");
     for (size_t i = 0; i < BOARD_LENGTH(rows); i++) {
         memcpy(&memory, &table, sizeof memory);
         memcpy(&other, &table, sizeof other);
@@ -207,5 +237,9 @@ int main(void) {
     }
     Board nobody = BOARD_OVER(empty, 0, 0, 0);
     printf("%-30s %5u\n", "0 x 0", board_build_on(&nobody, 10));
+    for (size_t i = 0; i < BOARD_LENGTH(band_counts); i++) {
+        BoardCrowdLimits limits = board_crowd_limits(board_bands(bands, band_counts[i]), GUESTS);
+        printf("look-up in %5zu bands         %5u: (%u,%u)\n", band_counts[i], limits.code, limits.alpha, limits.beta);
+    }
     return differs;
 }

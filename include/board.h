@@ -1,5 +1,5 @@
 /*
- * The crew cover board: its six calls for C11 and C++ on x86-64, in the static library libboard.a.
+ * The crew cover board: its eight calls for C11 and C++ on x86-64, in the static library libboard.a.
  *
  * A board says which operator is cleared for which ride, which operators are on shift and which rides are in service.
  * Operators have the numbers 0 to operators - 1, rides 0 to rides - 1. A pair of an operator and a ride counts if it is
@@ -29,6 +29,13 @@
  *     answer = board_message_on(&board, home);
  *     int on = board.presence[BOARD_OPERATOR_PRESENCE(17)] == BOARD_PRESENT;
  *
+ * Limits by crowd: a band has a first and a last guest count, alpha and beta, and the cover for a guest count is that
+ * for the limits of its band:
+ *
+ *     static const BoardBand list[] = {{0, 7999, 1, 2}, {8000, 20000, 2, 3}};
+ *     BoardBands bands = board_bands(list, BOARD_LENGTH(list));
+ *     counts = board_crowd_cover_on(&board, bands, guests, marks, BOARD_LENGTH(marks));
+ *
  * The functions that end in _on lend a Board's parts to the plain calls, which take each part as a pointer to its first
  * place and the number of its places.
  *
@@ -44,14 +51,15 @@
  *
  * For firmware (docs/INTERFACE.md says more):
  * - x86-64, System V calling convention, SSE2 and no more; no use of the red zone below the stack pointer.
- * - Deepest stack in bytes, measured at 200 x 60 (docs/BENCHMARK.md): build 26,112, query 144, peel 26,320, message
- *   26,160, message list 26,256, preview 26,368.
+ * - Deepest stack in bytes, measured at 200 x 60 (docs/BENCHMARK.md): build 26,112, query 144, peel 26,320, look-up
+ *   @STACK_CROWD_LIMITS@, crowd cover @STACK_CROWD_COVER@, message 26,160, message list 26,256, preview 26,368.
  * - No writable data; of the program it needs memcpy, memmove and memset at most.
  * - A reset in the middle of a call leaves a mixture of old and new words in what the call writes: build again from a
  *   pair table, and send the messages again. A preview writes the spare memory alone.
  * - Time grows with rides x rides x (operators + rides) for build and message, for a message list as for one message
  *   and with messages x pairs, for a preview as for one message and one copy of the board, with operators + rides for a
- *   query, with operators x rides + steps x (operators + rides) for a peel.
+ *   query, with operators x rides + steps x (operators + rides) for a peel, for a crowd cover as for such a peel from
+ *   all ones, with bands x bands for a look-up.
  */
 #ifndef BOARD_H
 #define BOARD_H
@@ -69,8 +77,8 @@ extern "C" {
 
 /* The version of this header (docs/CHANGELOG.md), as a number to compare: 1.2.3 is 10203. */
 #define BOARD_VERSION_MAJOR 3
-#define BOARD_VERSION_MINOR 0
-#define BOARD_VERSION_PATCH 2
+#define BOARD_VERSION_MINOR 1
+#define BOARD_VERSION_PATCH 0
 #define BOARD_VERSION (BOARD_VERSION_MAJOR * 10000 + BOARD_VERSION_MINOR * 100 + BOARD_VERSION_PATCH)
 
 /* Sizes */
@@ -80,6 +88,10 @@ extern "C" {
 
 /* The largest revision of a message. */
 #define BOARD_REVISION_MOST 255
+
+/* The most bands of a table, and the largest guest count. */
+#define BOARD_BANDS_MOST 8
+#define BOARD_GUESTS_MOST 20000
 
 /*
  * The presence word of an operator who is on, and of a ride that is in. Any other word is off or out; a taken message
@@ -137,7 +149,7 @@ extern "C" {
 
 /*
  * The numbers of documents 01 and 02 (docs/SCOPE.md). A call checks those named beside it below and gives the first one
- * that applies, in the order 1 to 9, 14, 15, 10, 12.
+ * that applies, in the order 1 to 9, 14, 15, 10, 12, 16 to 18.
  */
 enum BoardNumber {
     BOARD_DONE = 0,                /* done or taken */
@@ -155,7 +167,11 @@ enum BoardNumber {
     BOARD_MARK_UNKNOWN = 12,       /* peel: a mark in use is not 0 or 1 */
     BOARD_INPUT_LENGTH_WRONG = 13, /* program `cover`: input length wrong; no call answers it */
     BOARD_REVISION_OVER = 14,      /* message: revision over 255 */
-    BOARD_UNUSED_FIELD = 15        /* message: an unused field is not 0 */
+    BOARD_UNUSED_FIELD = 15,       /* message: an unused field is not 0 */
+    BOARD_BANDS_MALFORMED = 16,    /* a band count outside 1 to 8, a band whose first count exceeds its last, or a guest
+                                      count above 20,000, that of the call included */
+    BOARD_BANDS_OVERLAP = 17,      /* an overlap: two bands share a guest count */
+    BOARD_BANDS_GAP = 18           /* a gap: a guest count from 0 to 20,000 falls in no band */
 };
 
 /* The kinds of a message, and what each is for: a pair, an operator or a ride. */
@@ -178,7 +194,7 @@ typedef struct BoardHead {
     uint16_t pairs;
 } BoardHead;
 
-/* What a query answers: the number, and how many operators and rides it marked. */
+/* What a query or a crowd cover answers: the number, and how many operators and rides it marked. */
 typedef struct BoardCounts {
     uint16_t code;
     uint16_t operators;
@@ -211,6 +227,27 @@ typedef struct BoardAnswer {
     uint16_t differ;
 } BoardAnswer;
 
+/* Band: the limits for the guest counts from `first` to `last`, both included. */
+typedef struct BoardBand {
+    uint16_t first;
+    uint16_t last;
+    uint16_t alpha;
+    uint16_t beta;
+} BoardBand;
+
+/* A table of one to eight bands in any order, best made by board_bands. Bands past the count are not read. */
+typedef struct BoardBands {
+    uint16_t count;
+    BoardBand bands[BOARD_BANDS_MOST];
+} BoardBands;
+
+/* What a look-up answers: the number, and the limits of the band that the guest count falls in. */
+typedef struct BoardCrowdLimits {
+    uint16_t code;
+    uint16_t alpha;
+    uint16_t beta;
+} BoardCrowdLimits;
+
 #ifdef __cplusplus
 #define BOARD_ASSERT(condition) static_assert(condition, #condition)
 #else
@@ -238,6 +275,18 @@ BOARD_ASSERT(offsetof(BoardMessage, stamp) == 8);
 BOARD_ASSERT(sizeof(BoardAnswer) == 4);
 BOARD_ASSERT(offsetof(BoardAnswer, code) == 0);
 BOARD_ASSERT(offsetof(BoardAnswer, differ) == 2);
+BOARD_ASSERT(sizeof(BoardBand) == 8);
+BOARD_ASSERT(offsetof(BoardBand, first) == 0);
+BOARD_ASSERT(offsetof(BoardBand, last) == 2);
+BOARD_ASSERT(offsetof(BoardBand, alpha) == 4);
+BOARD_ASSERT(offsetof(BoardBand, beta) == 6);
+BOARD_ASSERT(sizeof(BoardBands) == 66);
+BOARD_ASSERT(offsetof(BoardBands, count) == 0);
+BOARD_ASSERT(offsetof(BoardBands, bands) == 2);
+BOARD_ASSERT(sizeof(BoardCrowdLimits) == 6);
+BOARD_ASSERT(offsetof(BoardCrowdLimits, code) == 0);
+BOARD_ASSERT(offsetof(BoardCrowdLimits, alpha) == 2);
+BOARD_ASSERT(offsetof(BoardCrowdLimits, beta) == 4);
 
 #undef BOARD_ASSERT
 
@@ -275,7 +324,7 @@ uint16_t board_build(BoardHead head, uint16_t *operators, size_t operators_lengt
  * counts 0. An index that is too short is 3 also where no level decides. A refusal leaves every lent word as it was.
  *
  * Never take a dispatch permit from beta 0: every ride that is in is then marked, also one that no operator is cleared
- * for. A permit needs a query or peel with beta from 1.
+ * for. A permit needs a query, peel or crowd cover with beta from 1.
  *
  * Index and presence words are those of one board, as its last build or message left them: the levels already leave out
  * the pairs of whoever is off or out. With presence words of another board, or with a word that was written without a
@@ -311,6 +360,38 @@ BoardCounts board_query(BoardHead head, const uint16_t *index, size_t index_leng
 BoardPeeled board_peel(BoardHead head, const uint16_t *operators, size_t operators_length, const uint16_t *rides,
                        size_t rides_length, const uint16_t *presence, size_t presence_length, uint16_t *marks,
                        size_t marks_length, uint16_t alpha, uint16_t beta, uint16_t steps);
+
+/*
+ * Look-up: the limits of the band that a guest count falls in.
+ *
+ * Reads the first `bands.count` bands of the table, and the guest count. Every guest count from 0 to 20,000 must fall
+ * in exactly one of these bands. `guests` has 16 bits: compare a wider number with BOARD_GUESTS_MOST before the call,
+ * since 65,536 guests would become 0.
+ *
+ * Answers BOARD_DONE with the band's alpha and beta, or of 16, 17 and 18 the lowest that applies, with both 0. A table
+ * that is accepted for one guest count is accepted for every one from 0 to 20,000, so that a look-up of 0 checks a
+ * table.
+ */
+BoardCrowdLimits board_crowd_limits(BoardBands bands, uint16_t guests);
+
+/*
+ * Crowd cover: who is in the cover for a guest count, the cover for the limits of its band, found by a peel from all
+ * ones. A limit of 0 is no limit.
+ *
+ * Reads the head, the listed pairs, the presence words, the table and the guest count as a look-up does. It uses no
+ * index, so that a damaged one does not matter, and the marks that come in are not read.
+ *
+ * Writes a mark for each operator, then each ride, 1 for those in the cover and 0 for all others, as a query with these
+ * limits does where the index is that of the board. Nobody who is off or out is marked, under limits of 0 neither.
+ *
+ * Answers BOARD_DONE with the counts of operators and rides marked, or of 1 to 5 and 16 to 18 the lowest that applies,
+ * with counts 0. A refusal leaves every lent word as it was.
+ *
+ * A dispatch permit needs a beta from 1: look the limits up, and take no permit from a band with beta 0.
+ */
+BoardCounts board_crowd_cover(BoardHead head, const uint16_t *operators, size_t operators_length, const uint16_t *rides,
+                              size_t rides_length, const uint16_t *presence, size_t presence_length, BoardBands bands,
+                              uint16_t guests, uint16_t *marks, size_t marks_length);
 
 /*
  * Message: takes one message, if it is later than the last one that the board took for its pair, its operator or its
@@ -453,7 +534,19 @@ typedef struct Board {
         (storage).presence, BOARD_LENGTH((storage).presence)                      \
     }
 
-/* Each call over a Board: the plain call with the parts of the board. */
+/*
+ * The table of these bands, from an array of any length. A table of no band, or of more than 8, is refused with 16
+ * wherever it is used.
+ */
+static inline BoardBands board_bands(const BoardBand *bands, size_t count) {
+    BoardBands table = {0, {{0, 0, 0, 0}}};
+    table.count = (uint16_t)(count < UINT16_MAX ? count : UINT16_MAX);
+    for (size_t i = 0; i < count && i < BOARD_BANDS_MOST; i++)
+        table.bands[i] = bands[i];
+    return table;
+}
+
+/* Each call that is lent parts of a board, over a Board: the plain call with the parts of the board. */
 
 static inline uint16_t board_build_on(const Board *board, uint32_t start) {
     return board_build(board->head, board->operators, board->operators_length, board->rides, board->rides_length, start,
@@ -473,6 +566,12 @@ static inline BoardPeeled board_peel_on(const Board *board, uint16_t *marks, siz
                                         uint16_t beta, uint16_t steps) {
     return board_peel(board->head, board->operators, board->operators_length, board->rides, board->rides_length,
                       board->presence, board->presence_length, marks, marks_length, alpha, beta, steps);
+}
+
+static inline BoardCounts board_crowd_cover_on(const Board *board, BoardBands bands, uint16_t guests, uint16_t *marks,
+                                               size_t marks_length) {
+    return board_crowd_cover(board->head, board->operators, board->operators_length, board->rides, board->rides_length,
+                             board->presence, board->presence_length, bands, guests, marks, marks_length);
 }
 
 static inline BoardAnswer board_message_on(Board *board, BoardMessage message) {
@@ -540,6 +639,12 @@ static inline const char *board_text(uint16_t code) {
         return "message: revision over 255";
     case BOARD_UNUSED_FIELD:
         return "message: an unused field is not 0";
+    case BOARD_BANDS_MALFORMED:
+        return "a band count outside 1 to 8, a band whose first count exceeds its last, or a guest count above 20,000";
+    case BOARD_BANDS_OVERLAP:
+        return "an overlap: two bands share a guest count";
+    case BOARD_BANDS_GAP:
+        return "a gap: a guest count falls in no band";
     default:
         return "no number of the board";
     }
