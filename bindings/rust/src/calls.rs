@@ -1,9 +1,9 @@
-//! The six calls over slices. The library's calls accept every argument: they check what they use, and refuse. What
+//! The eight calls over slices. The library's calls accept every argument: they check what they use, and refuse. What
 //! they ask of a C program, that a part is as long as it says, aligned and apart from the others, a Rust slice is by its
 //! type. So no call here is `unsafe`.
 
 use crate::exported;
-use crate::{Answers, Refusal};
+use crate::{Answers, Refusal, BANDS_MOST};
 
 /// Head: the sizes, and the number of pairs.
 #[derive(Clone, Copy, Debug, Default, PartialEq, Eq)]
@@ -87,7 +87,54 @@ impl Message {
     }
 }
 
-/// How many operators and rides a query marked.
+/// Band: the limits for the guest counts from `first` to `last`, both included.
+#[derive(Clone, Copy, Debug, Default, PartialEq, Eq)]
+#[repr(C)]
+pub struct Band {
+    /// The first guest count, at most the last.
+    pub first: u16,
+    /// The last guest count, up to 20,000.
+    pub last: u16,
+    /// The limit for operators.
+    pub alpha: u16,
+    /// The limit for rides. A dispatch permit needs one from 1.
+    pub beta: u16,
+}
+
+/// A table of one to eight bands in any order. Every guest count from 0 to 20,000 falls in exactly one of them.
+#[derive(Clone, Copy, Debug, Default, PartialEq, Eq)]
+#[repr(C)]
+pub struct Bands {
+    /// How many bands there are.
+    pub count: u16,
+    /// The bands. Those past the count are not read.
+    pub bands: [Band; BANDS_MOST],
+}
+
+impl Bands {
+    /// The table of these bands. One of no band, or of more than 8, is refused with 16 wherever it is used.
+    pub const fn new(bands: &[Band]) -> Bands {
+        let count = if bands.len() < u16::MAX as usize { bands.len() as u16 } else { u16::MAX };
+        let mut table = Bands { count, bands: [Band { first: 0, last: 0, alpha: 0, beta: 0 }; BANDS_MOST] };
+        let mut place = 0;
+        while place < bands.len() && place < BANDS_MOST {
+            table.bands[place] = bands[place];
+            place += 1;
+        }
+        table
+    }
+}
+
+/// The limits of a band.
+#[derive(Clone, Copy, Debug, PartialEq, Eq)]
+pub struct Limits {
+    /// The limit for operators.
+    pub alpha: u16,
+    /// The limit for rides.
+    pub beta: u16,
+}
+
+/// How many operators and rides a query or a crowd cover marked.
 #[derive(Clone, Copy, Debug, PartialEq, Eq)]
 pub struct Counts {
     /// Operators marked.
@@ -207,6 +254,56 @@ pub fn peel(
     };
     Refusal::check(peeled.code)?;
     Ok(Peeled { settled: peeled.settled == 1, steps: peeled.steps })
+}
+
+/// Look-up: the limits of the band that a guest count falls in. A table that is accepted for one guest count is accepted
+/// for every one from 0 to 20,000.
+///
+/// ```
+/// use board::{crowd_limits, Band, Bands, Limits, Refusal};
+///
+/// const QUIET: Band = Band { first: 0, last: 7_999, alpha: 1, beta: 2 };
+/// const BUSY: Band = Band { first: 8_000, last: 20_000, alpha: 2, beta: 3 };
+/// assert_eq!(crowd_limits(Bands::new(&[BUSY, QUIET]), 7_999), Ok(Limits { alpha: 1, beta: 2 }));
+/// assert_eq!(crowd_limits(Bands::new(&[BUSY]), 8_000), Err(Refusal::BandsGap));
+/// ```
+pub fn crowd_limits(bands: Bands, guests: u16) -> Result<Limits, Refusal> {
+    let limits = unsafe { exported::board_crowd_limits(bands, guests) };
+    Refusal::check(limits.code)?;
+    Ok(Limits { alpha: limits.alpha, beta: limits.beta })
+}
+
+/// Crowd cover: marks the cover for a guest count, that for the limits of its band, and counts it as a query does. It is
+/// found from the pair arrays and the presence words; the marks that come in are not read. Where the band's beta is 0 every
+/// ride that is in is marked, so that a dispatch permit needs a beta from 1.
+///
+/// Refuses with 1 to 5, then as [`crowd_limits`] does.
+pub fn crowd_cover(
+    head: Head,
+    operators: &[u16],
+    rides: &[u16],
+    presence: &[u16],
+    bands: Bands,
+    guests: u16,
+    marks: &mut [u16],
+) -> Result<Counts, Refusal> {
+    let counts = unsafe {
+        exported::board_crowd_cover(
+            head,
+            operators.as_ptr(),
+            operators.len(),
+            rides.as_ptr(),
+            rides.len(),
+            presence.as_ptr(),
+            presence.len(),
+            bands,
+            guests,
+            marks.as_mut_ptr(),
+            marks.len(),
+        )
+    };
+    Refusal::check(counts.code)?;
+    Ok(Counts { operators: counts.operators, rides: counts.rides })
 }
 
 /// Message: takes one message, if it is later than the last of its pair, operator or ride; the number of index words that

@@ -5,9 +5,9 @@
 //! # Safety
 //! `docs/INTERFACE.md` lists under "Memory" what a call cannot check and its caller must see to.
 
-use crate::calls::{Head, Message};
+use crate::calls::{Bands, Head, Message};
 
-/// What a query answers. Beside a refusal the counts are 0.
+/// What a query or a crowd cover answers. Beside a refusal the counts are 0.
 #[derive(Clone, Copy, Debug, PartialEq, Eq)]
 #[repr(C)]
 pub struct Counts {
@@ -29,6 +29,18 @@ pub struct Peeled {
     pub settled: u16,
     /// Steps taken.
     pub steps: u16,
+}
+
+/// What a look-up answers. Beside a refusal the limits are 0.
+#[derive(Clone, Copy, Debug, PartialEq, Eq)]
+#[repr(C)]
+pub struct CrowdLimits {
+    /// Document 01's number.
+    pub code: u16,
+    /// The band's limit for operators.
+    pub alpha: u16,
+    /// The band's limit for rides.
+    pub beta: u16,
 }
 
 /// What a message or a preview answers. Beside a refusal the count is 0.
@@ -92,6 +104,24 @@ extern "C" {
         beta: u16,
         steps: u16,
     ) -> Peeled;
+
+    /// Look-up; [`crowd_limits`](crate::crowd_limits) with a result.
+    pub fn board_crowd_limits(bands: Bands, guests: u16) -> CrowdLimits;
+
+    /// Crowd cover; [`crowd_cover`](crate::crowd_cover) over slices.
+    pub fn board_crowd_cover(
+        head: Head,
+        operators: *const u16,
+        operators_length: usize,
+        rides: *const u16,
+        rides_length: usize,
+        presence: *const u16,
+        presence_length: usize,
+        bands: Bands,
+        guests: u16,
+        marks: *mut u16,
+        marks_length: usize,
+    ) -> Counts;
 
     /// Message; [`message`](crate::message) over slices.
     pub fn board_message(

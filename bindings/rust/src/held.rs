@@ -1,7 +1,7 @@
 //! A board over memory that the caller lends for as long as the board lives.
 
-use crate::{build, index_places, mark_places, message, messages, pair_places, peel, preview, query};
-use crate::{Answers, Counts, Head, Message, Peeled, Refusal, OPERATORS_MOST, PRESENT, RIDES_MOST};
+use crate::{build, crowd_cover, index_places, mark_places, message, messages, pair_places, peel, preview, query};
+use crate::{Answers, Bands, Counts, Head, Message, Peeled, Refusal, OPERATORS_MOST, PRESENT, RIDES_MOST};
 
 const PAIR_PLACES: usize = pair_places(OPERATORS_MOST, RIDES_MOST);
 const INDEX_PLACES: usize = index_places(OPERATORS_MOST, RIDES_MOST);
@@ -278,6 +278,34 @@ impl<'m> Board<'m> {
     pub fn peel(&self, marks: &mut [u16], alpha: u16, beta: u16, steps: u16) -> Result<Peeled, Refusal> {
         let Parts { operators, rides, presence, .. } = &self.parts;
         peel(self.head, operators, rides, presence, marks, alpha, beta, steps)
+    }
+
+    /// Crowd cover: writes the marks of the cover for a guest count, that for the limits of its band, and counts them. It does
+    /// not read the index, nor the marks that come in.
+    pub fn crowd_cover(&self, bands: Bands, guests: u16, marks: &mut [u16]) -> Result<Counts, Refusal> {
+        let Parts { operators, rides, presence, .. } = &self.parts;
+        crowd_cover(self.head, operators, rides, presence, bands, guests, marks)
+    }
+
+    /// The cover for a guest count, with marks of its own. A dispatch permit needs a band with beta from 1:
+    /// [`crowd_limits`](crate::crowd_limits) gives it.
+    ///
+    /// ```
+    /// use board::{Band, Bands, Board, Memory};
+    ///
+    /// let mut memory = Box::new(Memory::new());
+    /// let board = Board::build(memory.parts(), 2, 2, &[(0, 0), (1, 0), (1, 1)], 10)?;
+    /// let quiet = Band { first: 0, last: 7_999, alpha: 1, beta: 1 };
+    /// let busy = Band { first: 8_000, last: 20_000, alpha: 1, beta: 2 };
+    /// let bands = Bands::new(&[quiet, busy]);
+    /// assert!(board.cover_for(bands, 1_500)?.rides().eq([0, 1]));
+    /// assert!(board.cover_for(bands, 18_000)?.rides().eq([0]));
+    /// # Ok::<(), board::Refusal>(())
+    /// ```
+    pub fn cover_for(&self, bands: Bands, guests: u16) -> Result<Cover, Refusal> {
+        let mut marks = [0; MARK_PLACES];
+        let counts = self.crowd_cover(bands, guests, &mut marks)?;
+        Ok(Cover { head: self.head, counts, marks })
     }
 
     /// Takes one message; the number of index words that differ before and after.

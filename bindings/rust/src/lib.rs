@@ -1,4 +1,4 @@
-//! The crew cover board of document 01 for Rust programs: the six calls of its static library over slices, and a
+//! The crew cover board of document 01 for Rust programs: the eight calls of its static library over slices, and a
 //! [`Board`] over memory that the caller lends. Nothing here allocates, and no user of it writes `unsafe`.
 //!
 //! ```
@@ -24,8 +24,8 @@ mod held;
 mod refusal;
 
 pub use answers::Answers;
-pub use calls::{build, message, messages, peel, preview, query};
-pub use calls::{Counts, Head, Message, Peeled};
+pub use calls::{build, crowd_cover, crowd_limits, message, messages, peel, preview, query};
+pub use calls::{Band, Bands, Counts, Head, Limits, Message, Peeled};
 pub use calls::{GRANT, OPERATOR_OFF, OPERATOR_ON, RIDE_IN, RIDE_OUT, WITHDRAWAL};
 pub use held::{Board, Cover, Memory, Parts, Presence, Words};
 pub use refusal::Refusal;
@@ -37,6 +37,11 @@ pub const RIDES_MOST: u16 = 60;
 
 /// The largest revision of a message.
 pub const REVISION_MOST: u16 = 255;
+
+/// The most bands of a table.
+pub const BANDS_MOST: usize = 8;
+/// The largest guest count.
+pub const GUESTS_MOST: u16 = 20_000;
 
 /// The presence word of an operator who is on, and of a ride that is in. Any other word is off or out.
 pub const PRESENT: u16 = 1;

@@ -51,6 +51,9 @@ refusals! {
     13 InputLengthWrong "program: input length wrong"
     14 RevisionOver "message: revision over 255"
     15 UnusedField "message: an unused field is not 0"
+    16 BandsMalformed "a band count outside 1 to 8, a band whose first count exceeds its last, or a guest count above 20,000"
+    17 BandsOverlap "an overlap: two bands share a guest count"
+    18 BandsGap "a gap: a guest count falls in no band"
 }
 
 impl Refusal {

@@ -349,7 +349,7 @@ fn numbers_and_texts() {
         assert_eq!((refusal.number(), Refusal::from_number(number)), (number, Some(*refusal)));
         assert_eq!(Refusal::check(number), Err(*refusal));
     }
-    assert_eq!((Refusal::from_number(0), Refusal::from_number(16)), (None, None));
+    assert_eq!((Refusal::from_number(0), Refusal::from_number(19)), (None, None));
     assert_eq!(Refusal::NotLater.to_string(), "10: message not later than the last of its pair, operator or ride");
 }
 
@@ -367,6 +367,8 @@ fn the_header_agrees() {
     assert!(header.contains(&format!("BOARD_OPERATORS_MOST {OPERATORS_MOST}\n")));
     assert!(header.contains(&format!("BOARD_RIDES_MOST {RIDES_MOST}\n")));
     assert!(header.contains(&format!("BOARD_REVISION_MOST {REVISION_MOST}\n")));
+    assert!(header.contains(&format!("BOARD_BANDS_MOST {BANDS_MOST}\n")));
+    assert!(header.contains(&format!("BOARD_GUESTS_MOST {GUESTS_MOST}\n")));
     assert!(header.contains(&format!("BOARD_PRESENT {PRESENT}\n")));
     for (name, kind) in [
         ("GRANT", GRANT),
@@ -379,5 +381,7 @@ fn the_header_agrees() {
         assert!(header.contains(&format!("    BOARD_{name} = {kind}")), "{name}");
     }
     assert_eq!((size_of::<Head>(), size_of::<Message>()), (6, 12));
+    assert_eq!((size_of::<Band>(), size_of::<Bands>(), size_of::<exported::CrowdLimits>()), (8, 66, 6));
+    assert_eq!(core::mem::offset_of!(Bands, bands), 2);
     assert_eq!((core::mem::offset_of!(Message, revision), core::mem::offset_of!(Message, stamp)), (6, 8));
 }

@@ -1,15 +1,13 @@
-//! Messages in every order.
+//! Messages, or bands, in every order.
 
-use board::Message;
-
-/// Every order of these messages.
-pub fn orders(messages: &[Message]) -> Vec<Vec<Message>> {
-    if messages.is_empty() {
+/// Every order of these.
+pub fn orders<T: Copy>(list: &[T]) -> Vec<Vec<T>> {
+    if list.is_empty() {
         return vec![Vec::new()];
     }
     let with_first = |first: usize| {
-        let rest = [&messages[..first], &messages[first + 1..]].concat();
-        orders(&rest).into_iter().map(move |order| [&[messages[first]], &order[..]].concat())
+        let rest = [&list[..first], &list[first + 1..]].concat();
+        orders(&rest).into_iter().map(move |order| [&[list[first]], &order[..]].concat())
     };
-    (0..messages.len()).flat_map(with_first).collect()
+    (0..list.len()).flat_map(with_first).collect()
 }
