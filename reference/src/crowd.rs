@@ -105,12 +105,8 @@ pub fn crowd_cover(
     }
     let counting = Counting::new(head, &listed(head, operators, rides), presence);
     let set = core(&counting, limits.alpha as usize, limits.beta as usize);
-    for operator in 0..head.operators as usize {
-        marks[operator] = set.0.has(operator) as u16;
-    }
-    for ride in 0..head.rides {
-        marks[head.ride_node(ride)] = set.1.has(ride as usize) as u16;
-    }
-    let (of_operators, of_rides) = marks[..nodes].split_at(head.operators as usize);
-    Counts { code: 0, operators: of_operators.iter().sum(), rides: of_rides.iter().sum() }
+    let (operators, rides) = marks[..nodes].split_at_mut(head.operators as usize);
+    operators.iter_mut().enumerate().for_each(|(operator, mark)| *mark = set.0.has(operator) as u16);
+    rides.iter_mut().enumerate().for_each(|(ride, mark)| *mark = set.1.has(ride) as u16);
+    Counts { code: 0, operators: operators.iter().sum(), rides: rides.iter().sum() }
 }

@@ -4,6 +4,7 @@
 
 pub mod corrections;
 pub mod crowd;
+pub mod crowd_samples;
 pub mod frames;
 pub mod presence;
 pub mod samples;

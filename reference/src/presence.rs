@@ -11,11 +11,11 @@ const fn message(kind: u16, operator: u16, ride: u16, revision: u16, stamp: u32)
 /// A word for each of 4 operators, then for each of 3 rides.
 pub type Words = [u16; 7];
 
-const EVERYBODY: Words = [1; 7];
-const NOBODY: Words = [0; 7];
-const NO_OPERATOR_2: Words = [1, 1, 0, 1, 1, 1, 1];
-const NO_RIDE_1: Words = [1, 1, 1, 1, 1, 0, 1];
-const NEITHER: Words = [1, 1, 0, 1, 1, 0, 1];
+pub const EVERYBODY: Words = [1; 7];
+pub const NOBODY: Words = [0; 7];
+pub const NO_OPERATOR_2: Words = [1, 1, 0, 1, 1, 1, 1];
+pub const NO_RIDE_1: Words = [1, 1, 1, 1, 1, 0, 1];
+pub const NEITHER: Words = [1, 1, 0, 1, 1, 0, 1];
 
 /// Rows 1 and 2 of the index. Row 3 is all 0 in every sample.
 pub type Rows = [Words; 2];
@@ -456,7 +456,7 @@ const INDEX_9: [u16; 21] = [9; 21];
 const INDEX: [u16; 21] = index(&ALL_COUNT);
 
 /// Words of which the second operator and the second ride alone are 1.
-const ODD: Words = [7, 1, 65_535, 257, 0, 1, 2];
+pub const ODD: Words = [7, 1, 65_535, 257, 0, 1, 2];
 
 pub const QUERIES: &[Query] = &[
     // Both limits 0: all who are on or in, whatever the index is.

@@ -24,7 +24,7 @@ pub struct Sample {
     pub pairs: &'static [Pair],
     pub alpha: u16,
     pub beta: u16,
-    /// What a query after a build and a settled peel from all ones leave.
+    /// What a query after a build, a settled peel from all ones and a crowd cover leave.
     pub marks: &'static [u16],
     /// What `cover` prints.
     pub text: &'static str,

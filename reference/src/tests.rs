@@ -1,5 +1,7 @@
 //! The samples of documents 01 and 02, and the definitions against what they say of every set.
 
+mod crowd;
+
 use super::corrections::{Corrections, BESIDE_14, CORRECTIONS, SHORT_REVISIONS};
 use super::presence::{Delivery, Node, Rows, Turns, Words, BEFORE_15, BESIDE_15, BESIDE_6, BUILT_OVER, DELIVERIES};
 use super::presence::{ALL_COUNT, NODES, ONE_SIDED, OTHERS, PEELS, QUERIES, SHORT_PRESENCE, TURNS};
