@@ -16,7 +16,8 @@ fn call(
     marks: &mut [u16; 270],
     answers: &mut [u16; 70],
 ) -> u64 {
-    if frames::word(frame, 0) < 4 {
+    let kind = frames::word(frame, 0);
+    if kind < 4 {
         replay_tables::call(
             frame,
             lent,
@@ -30,6 +31,9 @@ fn call(
             presence,
             marks,
         );
+        0
+    } else if 5 < kind {
+        replay_crowds::call(frame, lent, operators, rides, presence, marks);
         0
     } else {
         replay_messages::call(

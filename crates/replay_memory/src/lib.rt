@@ -53,12 +53,13 @@ fn parts_at(frame: &[u8]) -> usize {
         2 => 6,
         3 => 7,
         4 => 10,
+        7 => 38,
         _ => frames::past(5, 6 * (frames::word(frame, 4) as usize)),
     }
 }
 
-// Sets the memory as the parts of a frame say. A query has no pairs, a peel no index, and neither has stamps or revisions, of pairs or of nodes;
-// they alone have marks.
+// Sets the memory as the parts of a frame say. A query has no pairs, a peel and a crowd cover have no index, and none of the three has stamps or
+// revisions, of pairs or of nodes; they alone have marks. A look-up in a crowd table has no parts.
 pub fn load(
     frame: &[u8],
     operators: &mut [u16; 12300],
@@ -73,15 +74,17 @@ pub fn load(
     answers: &mut [u16; 70],
 ) -> Lent {
     let kind = frames::word(frame, 0);
-    let marked = kind == 2 || kind == 3;
-    let o = lent_parts::load(frame, parts_at(frame), kind != 2, operators);
-    let r = lent_parts::load(frame, o.next, kind != 2, rides);
-    let s = lent_parts::load_longs(frame, r.next, !marked, stamps);
-    let v = lent_parts::load(frame, s.next, !marked, revisions);
-    let i = lent_parts::load(frame, v.next, kind != 3, index);
-    let t = lent_parts::load_longs(frame, i.next, !marked, presence_stamps);
-    let c = lent_parts::load(frame, t.next, !marked, presence_revisions);
-    let p = lent_parts::load(frame, c.next, true, presence);
+    let whole = kind == 1 || kind == 4 || kind == 5;
+    let marked = kind == 2 || kind == 3 || kind == 7;
+    let paired = kind != 2 && kind != 6;
+    let o = lent_parts::load(frame, parts_at(frame), paired, operators);
+    let r = lent_parts::load(frame, o.next, paired, rides);
+    let s = lent_parts::load_longs(frame, r.next, whole, stamps);
+    let v = lent_parts::load(frame, s.next, whole, revisions);
+    let i = lent_parts::load(frame, v.next, whole || kind == 2, index);
+    let t = lent_parts::load_longs(frame, i.next, whole, presence_stamps);
+    let c = lent_parts::load(frame, t.next, whole, presence_revisions);
+    let p = lent_parts::load(frame, c.next, kind != 6, presence);
     let m = lent_parts::load(frame, p.next, marked, marks);
     let a = lent_parts::load(frame, m.next, kind == 5, answers);
     Lent {
