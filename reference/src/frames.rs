@@ -1,6 +1,7 @@
 //! The streams of calls that are replayed, as README.md lays them out: what writes a frame, and what replays a stream
 //! and gives the line of text for each call.
 
+use crate::crowd::{Band, Bands, CrowdLimits};
 use crate::{Answer, Counts, Head, Lengths, Message, Parts, Peeled, Slices, Vectors};
 
 /// The most places of each part of a board, of the marks and of the answers that a frame may lend.
@@ -23,6 +24,8 @@ pub const QUERY: u16 = 2;
 pub const PEEL: u16 = 3;
 pub const MESSAGE: u16 = 4;
 pub const MESSAGES: u16 = 5;
+pub const CROWD_LIMITS: u16 = 6;
+pub const CROWD_COVER: u16 = 7;
 
 // What a frame says of a lent part
 
@@ -143,6 +146,19 @@ pub enum Call {
         parts: Framed,
         answers: Part<u16>,
     },
+    CrowdLimits {
+        guests: u16,
+        bands: Bands,
+    },
+    CrowdCover {
+        head: Head,
+        guests: u16,
+        bands: Bands,
+        operators: Part<u16>,
+        rides: Part<u16>,
+        presence: Part<u16>,
+        marks: Part<u16>,
+    },
 }
 
 // Writing
@@ -154,6 +170,13 @@ fn put_head(frame: &mut Vec<u16>, head: Head) {
 fn put_message(frame: &mut Vec<u16>, message: Message) {
     frame.extend([message.kind, message.operator, message.ride, message.revision]);
     message.stamp.put(frame);
+}
+
+fn put_bands(frame: &mut Vec<u16>, bands: &Bands) {
+    frame.push(bands.count);
+    for band in &bands.bands {
+        frame.extend([band.first, band.last, band.alpha, band.beta]);
+    }
 }
 
 fn put_part<T: Word>(frame: &mut Vec<u16>, part: &Part<T>) {
@@ -226,6 +249,20 @@ impl Call {
                 put_parts(&mut frame, parts);
                 put_part(&mut frame, answers);
             }
+            Call::CrowdLimits { guests, bands } => {
+                frame.extend([CROWD_LIMITS, *guests]);
+                put_bands(&mut frame, bands);
+            }
+            Call::CrowdCover { head, guests, bands, operators, rides, presence, marks } => {
+                frame.push(CROWD_COVER);
+                put_head(&mut frame, *head);
+                frame.push(*guests);
+                put_bands(&mut frame, bands);
+                put_part(&mut frame, operators);
+                put_part(&mut frame, rides);
+                put_part(&mut frame, presence);
+                put_part(&mut frame, marks);
+            }
         }
         frame
     }
@@ -273,6 +310,18 @@ pub trait Board {
     ) -> Peeled;
     fn message(&mut self, head: &mut Head, parts: &mut Slices, message: Message) -> Answer;
     fn messages(&mut self, head: &mut Head, parts: &mut Slices, messages: &[Message], answers: &mut [u16]) -> u16;
+    fn crowd_limits(&mut self, bands: Bands, guests: u16) -> CrowdLimits;
+    #[allow(clippy::too_many_arguments)]
+    fn crowd_cover(
+        &mut self,
+        head: Head,
+        operators: &[u16],
+        rides: &[u16],
+        presence: &[u16],
+        bands: Bands,
+        guests: u16,
+        marks: &mut [u16],
+    ) -> Counts;
 }
 
 /// The calls of this package.
@@ -315,6 +364,23 @@ impl Board for Reference {
 
     fn messages(&mut self, head: &mut Head, parts: &mut Slices, messages: &[Message], answers: &mut [u16]) -> u16 {
         crate::messages(head, parts, messages, answers)
+    }
+
+    fn crowd_limits(&mut self, bands: Bands, guests: u16) -> CrowdLimits {
+        crate::crowd::crowd_limits(&bands, guests)
+    }
+
+    fn crowd_cover(
+        &mut self,
+        head: Head,
+        operators: &[u16],
+        rides: &[u16],
+        presence: &[u16],
+        bands: Bands,
+        guests: u16,
+        marks: &mut [u16],
+    ) -> Counts {
+        crate::crowd::crowd_cover(head, operators, rides, presence, &bands, guests, marks)
     }
 }
 
@@ -385,7 +451,7 @@ fn parts_checksum(before: u64, parts: &Slices) -> u64 {
 }
 
 impl Call {
-    /// Makes the call. Gives what it answered, and the head that it left.
+    /// Makes the call. Gives what it answered, and the head that it left: of zeros after a look-up, which has none.
     pub fn run(&self, board: &mut impl Board, memory: &mut Memory) -> (Outcome, Head) {
         match self {
             Call::Build { head, start, parts } => {
@@ -427,6 +493,21 @@ impl Call {
                 let sum = parts_checksum(head_checksum(head), &parts);
                 (Outcome { numbers: vec![code], checksum: checksum(sum, answers) }, head)
             }
+            Call::CrowdLimits { guests, bands } => {
+                let limits = board.crowd_limits(*bands, *guests);
+                let numbers = vec![limits.code, limits.alpha, limits.beta];
+                (Outcome { numbers, checksum: 0 }, Head { operators: 0, rides: 0, pairs: 0 })
+            }
+            Call::CrowdCover { head, guests, bands, operators, rides, presence, marks } => {
+                let operators = lend(&mut memory.parts.operators, operators);
+                let rides = lend(&mut memory.parts.rides, rides);
+                let presence = lend(&mut memory.parts.presence, presence);
+                let marks = lend(&mut memory.marks, marks);
+                let counts = board.crowd_cover(*head, operators, rides, presence, *bands, *guests, marks);
+                let numbers = vec![counts.code, counts.operators, counts.rides];
+                let sum = checksum(checksum(checksum(0, operators), rides), presence);
+                (Outcome { numbers, checksum: checksum(sum, marks) }, *head)
+            }
         }
     }
 }
@@ -454,6 +535,14 @@ impl<'a> Cursor<'a> {
     fn message(&mut self) -> Message {
         let (kind, operator, ride, revision) = (self.word(), self.word(), self.word(), self.word());
         Message { kind, operator, ride, revision, stamp: u32::get(self) }
+    }
+
+    fn bands(&mut self) -> Bands {
+        let mut bands = Bands { count: self.word(), ..Bands::default() };
+        for band in &mut bands.bands {
+            *band = Band { first: self.word(), last: self.word(), alpha: self.word(), beta: self.word() };
+        }
+        bands
     }
 
     fn part<T: Word + Clone + Default>(&mut self) -> Part<T> {
@@ -515,6 +604,16 @@ impl<'a> Cursor<'a> {
                 let messages = (0..count).map(|_| self.message()).collect();
                 Call::Messages { head, messages, parts: self.parts(), answers: self.part() }
             }
+            CROWD_LIMITS => Call::CrowdLimits { guests: self.word(), bands: self.bands() },
+            CROWD_COVER => Call::CrowdCover {
+                head: self.head(),
+                guests: self.word(),
+                bands: self.bands(),
+                operators: self.part(),
+                rides: self.part(),
+                presence: self.part(),
+                marks: self.part(),
+            },
             kind => panic!("a frame of kind {kind}"),
         })
     }

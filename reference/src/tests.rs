@@ -1110,6 +1110,7 @@ fn previews_are_what_the_message_does() {
 /// What a frame says is what was written into it.
 #[test]
 fn frames_are_read_as_written() {
+    use crate::crowd::{Band, Bands};
     use crate::frames::{write_end, Call, Cursor, Part};
     let head = Head { operators: 4, rides: 3, pairs: 65535 };
     let one = Message { kind: 1, operator: 2, ride: 3, revision: 4, stamp: 4_294_901_760 };
@@ -1127,6 +1128,8 @@ fn frames_are_read_as_written() {
         presence: Part::given(9, &[0, 7], 1),
     };
     let presence = parts.presence.clone();
+    let band = |place| Band { first: place, last: 65_535, alpha: 256 + place, beta: 300 * place };
+    let bands = Bands { count: 9, bands: std::array::from_fn(|place| band(place as u16)) };
     let calls = [
         Call::Build { head, start: 65_537, parts: parts.clone() },
         Call::Query {
@@ -1143,12 +1146,14 @@ fn frames_are_read_as_written() {
             beta: 2,
             steps: 3,
             operators: given.clone(),
-            rides: kept,
-            presence,
+            rides: kept.clone(),
+            presence: presence.clone(),
             marks: changed.clone(),
         },
-        Call::Message { head, message: one, parts: Parts { index: changed, ..parts.clone() } },
-        Call::Messages { head, messages: vec![one; 3], parts, answers: given },
+        Call::Message { head, message: one, parts: Parts { index: changed.clone(), ..parts.clone() } },
+        Call::Messages { head, messages: vec![one; 3], parts, answers: given.clone() },
+        Call::CrowdLimits { guests: 65_535, bands },
+        Call::CrowdCover { head, guests: 256, bands, operators: kept, rides: given, presence, marks: changed },
     ];
     let mut stream = Vec::new();
     calls.iter().for_each(|call| call.write(&mut stream));

@@ -3,6 +3,8 @@
 //! a second argument is a seed other than that of the stored files.
 
 use reference::corrections::{Corrections, BESIDE_14, CORRECTIONS, SHORT_REVISIONS};
+use reference::crowd::{crowd_limits, Band, Bands, BANDS_MOST, GUESTS_MOST};
+use reference::crowd_samples::{followed, Lent, BESIDE, CROWD_COVERS, FIVE, LENT, LOOK_UPS, REFUSED, UNREAD};
 use reference::frames::{replay_cover, write_end, Call, Framed, Memory, Outcome, Part, Reference, PLACES};
 use reference::presence::{Delivery, Last, Words, BEFORE_15, BESIDE_15, BESIDE_6, BUILT_OVER, DELIVERIES, NODES};
 use reference::presence::{ONE_SIDED, OTHERS, PEELS, QUERIES, SHORT_PRESENCE, TURNS, UNSTAMPED, WORDS_BESIDE_6};
@@ -121,7 +123,7 @@ const ZEROS: [&str; 7] = [
     "a limit 0 and the index of no board",
 ];
 
-/// Who is off or out in a query or peel. The last but one is for queries alone, and the last for peels alone.
+/// Who is off or out in a query, peel or crowd cover. The last but one is for queries alone, and the last for peels alone.
 const ABSENCES: [&str; 6] = [
     "an operator off",
     "a ride out",
@@ -142,8 +144,19 @@ const TAKEN: [&str; 7] = [
     "grant or withdrawal taken whose operator is off or ride out",
 ];
 
-/// How often each call gave each number, and how often it was of each kind of `ZEROS`, `ABSENCES` and `TAKEN`, without
-/// being refused.
+/// The tables and guest counts of look-ups and crowd covers. The last is for crowd covers alone.
+const CROWDS: [&str; 7] = [
+    "one band",
+    "eight bands",
+    "bands in no ascending order",
+    "a guest count that is the first of its band",
+    "a guest count that is the last of its band",
+    "a guest count that has a band of its own",
+    "a mark above 1 comes in",
+];
+
+/// How often each call gave each number, and how often it was of each kind of `ZEROS`, `ABSENCES`, `TAKEN` and `CROWDS`,
+/// without being refused.
 #[derive(Default)]
 struct Tally {
     numbers: BTreeMap<(&'static str, u16), usize>,
@@ -178,7 +191,7 @@ impl Tally {
         self.is_of(name, &ZEROS, &are);
     }
 
-    /// Counts a query or peel under each kind of `ABSENCES`, of which the last two are given.
+    /// Counts a query, peel or crowd cover under each kind of `ABSENCES`, of which the last two are given.
     fn absences(&mut self, name: &'static str, head: Head, both_zero: bool, presence: &[u16], last: [bool; 2]) {
         let (operators, rides) = presence.split_at(head.operators as usize);
         let is_absent = |word: &u16| *word != PRESENT;
@@ -198,6 +211,23 @@ impl Tally {
         let mut are = [false; 7];
         (are[kind as usize - 1], are[6]) = (true, last);
         self.is_of(name, &TAKEN, &are);
+    }
+
+    /// Counts a look-up or crowd cover under each kind of `CROWDS`, of which the last is given.
+    fn crowd(&mut self, name: &'static str, bands: &Bands, guests: u16, last: bool) {
+        let read = &bands.bands[..bands.count as usize];
+        let is_first = read.iter().any(|band| band.first == guests);
+        let is_last = read.iter().any(|band| band.last == guests);
+        let are = [
+            read.len() == 1,
+            read.len() == BANDS_MOST,
+            read.windows(2).any(|two| two[0].first > two[1].first),
+            is_first,
+            is_last,
+            is_first && is_last,
+            last,
+        ];
+        self.is_of(name, &CROWDS, &are);
     }
 
     /// A call gives each of these numbers at least `least` times, and no other one. 11 is in no list: it is never given.
@@ -296,6 +326,22 @@ impl Stream {
                     }
                 }
             }
+            Call::CrowdLimits { guests, bands } => {
+                tally.gave("crowd limits", code);
+                if code == 0 {
+                    tally.crowd("crowd limits", bands, *guests, false);
+                }
+            }
+            Call::CrowdCover { head, guests, bands, marks, .. } => {
+                tally.gave("crowd cover", code);
+                if code == 0 {
+                    let limits = crowd_limits(bands, *guests);
+                    let (alpha, beta, presence) = (limits.alpha, limits.beta, &presence[..head.nodes()]);
+                    tally.limits("crowd cover", *head, alpha, beta, &[]);
+                    tally.absences("crowd cover", *head, (alpha, beta) == (0, 0), presence, [false; 2]);
+                    tally.crowd("crowd cover", bands, *guests, marks.fill.is_some_and(|mark| mark > 1));
+                }
+            }
         }
     }
 
@@ -368,6 +414,11 @@ impl Draft {
     fn peel(&self, alpha: u16, beta: u16, steps: u16, marks: Part<u16>) -> Call {
         let Parts { operators, rides, presence, .. } = self.parts();
         Call::Peel { head: self.head, alpha, beta, steps, operators, rides, presence, marks }
+    }
+
+    fn crowd_cover(&self, (bands, guests): (Bands, u16), marks: Part<u16>) -> Call {
+        let Parts { operators, rides, presence, .. } = self.parts();
+        Call::CrowdCover { head: self.head, guests, bands, operators, rides, presence, marks }
     }
 
     /// A size above its bound. The parts may be lent as long as that size would need.
@@ -702,6 +753,147 @@ fn messages_case(random: &mut Random) -> Call {
     }
     let answers = Part::filled(answers_len, random.word());
     Call::Messages { head: draft.head, messages, parts: draft.parts(), answers }
+}
+
+// Crowd tables
+
+/// Bands that have each guest count once, in any order, with the limits that a function gives. Past the count stand words
+/// that are not read.
+fn some_bands(random: &mut Random, mut limits: impl FnMut(&mut Random) -> (u16, u16)) -> Bands {
+    let count = random.pick(&[1, 2, 3, 4, 5, 6, 7, 8, 8]);
+    let mut firsts = vec![0];
+    while firsts.len() < count {
+        let first = match random.below(4) {
+            0 => random.pick(&[1, 2, 255, 256, 257, GUESTS_MOST - 1, GUESTS_MOST]),
+            1 => random.pick(&firsts) + 1,
+            _ => 1 + random.below(GUESTS_MOST as usize) as u16,
+        };
+        if first <= GUESTS_MOST && !firsts.contains(&first) {
+            firsts.push(first);
+        }
+    }
+    firsts.sort_unstable();
+    let lasts = firsts.iter().skip(1).map(|first| first - 1).chain([GUESTS_MOST]);
+    let mut read: Vec<(u16, u16)> = firsts.iter().copied().zip(lasts).collect();
+    random.shuffle(&mut read);
+    let bands = std::array::from_fn(|place| {
+        let (first, last) = read.get(place).copied().unwrap_or_else(|| (random.word(), random.word()));
+        let (alpha, beta) = limits(random);
+        Band { first, last, alpha, beta }
+    });
+    Bands { count: count as u16, bands }
+}
+
+/// A guest count for a table that isn't damaged: one of its edges, 0, 20,000 or any.
+fn some_guests(random: &mut Random, bands: &Bands) -> u16 {
+    let band = random.pick(&bands.bands[..bands.count as usize]);
+    match random.below(6) {
+        0..=1 => band.first,
+        2..=3 => band.last,
+        4 => random.pick(&[0, GUESTS_MOST]),
+        _ => random.below(GUESTS_MOST as usize + 1) as u16,
+    }
+}
+
+/// A band grows, or is there twice, in part.
+fn overlap(random: &mut Random, bands: &mut Bands) {
+    let (count, by) = (bands.count as usize, random.pick(&[1, 1, 2, 300]));
+    let place = random.below(count);
+    let Band { first, last, alpha, beta } = bands.bands[place];
+    match random.below(3) {
+        0 => bands.bands[place].last = last.saturating_add(by).min(GUESTS_MOST),
+        1 => bands.bands[place].first = first.saturating_sub(by),
+        _ if count < BANDS_MOST => {
+            bands.bands[count] = Band { first: first.max(last.saturating_sub(by)), last, alpha: beta, beta: alpha };
+            bands.count += 1;
+        }
+        _ => {}
+    }
+}
+
+/// A band loses its first or its last guest count, or stands past the count.
+fn gap(random: &mut Random, bands: &mut Bands) {
+    let count = bands.count as usize;
+    let band = &mut bands.bands[random.below(count)];
+    match random.below(3) {
+        0 if band.first < band.last => band.first += 1,
+        1 if band.first < band.last => band.last -= 1,
+        _ if count > 1 => bands.count -= 1,
+        _ => {}
+    }
+}
+
+/// Does one of the damages that 16 speaks of. Of a band of one guest count the order stays.
+fn malform(random: &mut Random, bands: &mut Bands, guests: &mut u16) {
+    let place = random.below(bands.count as usize);
+    let Band { first, last, .. } = &mut bands.bands[place];
+    let above = random.pick(&[20_001, 20_001, 20_002, 32_768, 65_535]);
+    match random.below(5) {
+        0 => bands.count = random.pick(&[0, 9, 10, 255, 256, 257, 264, 65_535]),
+        1 => std::mem::swap(first, last),
+        2 => *last = above,
+        3 => *first = above,
+        _ => *guests = above,
+    }
+}
+
+/// Another word in place of the count, of a guest count of a band or of the one asked for.
+fn change_word(random: &mut Random, bands: &mut Bands, guests: &mut u16) {
+    let word = if random.one_in(2) { random.word() } else { random.below(GUESTS_MOST as usize + 2) as u16 };
+    let place = random.below(bands.count as usize);
+    match random.below(5) {
+        0 => bands.count = random.pick(&[word, word % 16]),
+        1..=2 => bands.bands[place].first = word,
+        3 => bands.bands[place].last = word,
+        _ => *guests = word,
+    }
+}
+
+/// A table and a guest count, half of them damaged, at times twice.
+fn some_crowd(random: &mut Random, limits: impl FnMut(&mut Random) -> (u16, u16)) -> (Bands, u16) {
+    let mut bands = some_bands(random, limits);
+    let mut guests = some_guests(random, &bands);
+    for _ in 0..random.pick(&[0, 0, 0, 0, 1, 1, 1, 2]) {
+        // No more is done where the count is damaged.
+        if !(1..=BANDS_MOST).contains(&(bands.count as usize)) {
+            break;
+        }
+        match random.below(8) {
+            0..=2 => overlap(random, &mut bands),
+            3..=5 => gap(random, &mut bands),
+            6 => malform(random, &mut bands, &mut guests),
+            _ => change_word(random, &mut bands, &mut guests),
+        }
+    }
+    (bands, guests)
+}
+
+fn crowd_limits_case(random: &mut Random) -> Call {
+    let (bands, guests) = some_crowd(random, |random| (random.word(), random.word()));
+    Call::CrowdLimits { guests, bands }
+}
+
+fn crowd_cover_case(random: &mut Random) -> Call {
+    let mut draft = Draft::small_or_one_sided(random);
+    let Head { operators, rides, .. } = draft.head;
+    let nodes = draft.head.nodes();
+    draft.words.presence = presence_of(random, nodes);
+    let mut marks = Part::filled(random.length(nodes), random.word());
+    let crowd = some_crowd(random, |random| (limit(random, rides), limit(random, operators)));
+    for _ in 0..few_faults(random) {
+        match random.below(7) {
+            0..=1 => {
+                draft.oversize(random);
+                marks.len = draft.head.nodes().min(265);
+            }
+            2 => draft.shorten_pairs(random),
+            3 => draft.lengths.presence = random.short(nodes),
+            4 => marks.len = random.short(nodes),
+            5 => draft.too_many_pairs(random),
+            _ => draft.disorder(random),
+        }
+    }
+    draft.crowd_cover(crowd, marks)
 }
 
 // Calls on a board that stays
@@ -1061,6 +1253,56 @@ fn sample_presence(random: &mut Random, stream: &mut Stream) {
     }
 }
 
+/// Document 02's limits by crowd, with what was worked out by hand.
+fn sample_crowds(random: &mut Random, stream: &mut Stream) {
+    let draft = with_presence(random, &[PRESENT; 7]);
+    let some_marks = |random: &mut Random| Part::filled(random.length(7), random.word());
+    for (table, asked) in LOOK_UPS {
+        for &(guests, (alpha, beta), marks) in *asked {
+            let bands = followed(*table, random.pick(&UNREAD));
+            stream.gives(Call::CrowdLimits { guests, bands }, &[0, alpha, beta], &[]);
+            let cover = draft.crowd_cover((bands, guests), some_marks(random));
+            stream.gives(cover, &[0, marks[..4].iter().sum(), marks[4..].iter().sum()], &marks);
+        }
+    }
+    for sample in LIMITS_FROM_0 {
+        let mut bands = some_bands(random, |random| (limit(random, 3), limit(random, 4)));
+        let guests = some_guests(random, &bands);
+        let band = bands.bands.iter_mut().find(|band| band.first <= guests && guests <= band.last).unwrap();
+        (band.alpha, band.beta) = (sample.alpha, sample.beta);
+        let mut draft = Draft::new(random, sample.operators, sample.rides, sample.pairs);
+        draft.words.presence = vec![PRESENT; draft.head.nodes()];
+        let marks = Part::filled(random.length(draft.head.nodes()), random.word());
+        let [operators, rides] = sample.counts();
+        stream.gives(draft.crowd_cover((bands, guests), marks), &[0, operators, rides], sample.marks);
+    }
+    for &(words, guests, marks) in CROWD_COVERS {
+        let cover = with_presence(random, &words).crowd_cover((FIVE, guests), some_marks(random));
+        stream.gives(cover, &[0, marks[..4].iter().sum(), marks[4..].iter().sum()], &marks);
+    }
+    for &(table, guests, number) in REFUSED {
+        stream.gives(Call::CrowdLimits { guests, bands: table }, &[number, 0, 0], &[]);
+        let bands = followed(table, random.pick(&UNREAD));
+        let marks = some_marks(random);
+        let cover = draft.crowd_cover((bands, guests), marks.clone());
+        stream.gives(cover, &[number, 0, 0], &[marks.fill.unwrap(); 7]);
+    }
+    for Lent { head, pairs, places, number } in LENT {
+        for (bands, guests, beside) in BESIDE {
+            let mut draft = Draft::new(random, 4, 3, pairs);
+            (draft.head, draft.words.presence) = (*head, vec![PRESENT; 7]);
+            (draft.lengths.operators, draft.lengths.rides, draft.lengths.presence) = (places[0], places[1], places[2]);
+            let (outcome, _) = stream.call(draft.crowd_cover((bands, guests), Part::filled(places[3], 7)));
+            // Where nothing is refused the cover is (1, 3).
+            let numbers = match (*number, beside) {
+                (0, 0) => [0, 3, 1],
+                (0, code) | (code, _) => [code, 0, 0],
+            };
+            assert_eq!(outcome.numbers, numbers);
+        }
+    }
+}
+
 /// Gives a length to one of the three parts of presence.
 fn shorten_to(lengths: &mut Lengths, part: usize, places: usize) {
     match part {
@@ -1194,6 +1436,27 @@ fn large_calls(random: &mut Random, stream: &mut Stream) {
     }
 }
 
+/// Crowd covers of a board that stays, but for who is on and in.
+fn large_crowds(random: &mut Random, stream: &mut Stream) {
+    let pairs = random.table_of(200, 60, 2_000);
+    let draft = Draft::new(random, 200, 60, &pairs);
+    let nodes = draft.head.nodes();
+    for turn in 0..16 {
+        let limits = |random: &mut Random| (large_limit(random, 60, [1, 8, 10]), large_limit(random, 200, [1, 28, 33]));
+        let bands = some_bands(random, limits);
+        let guests = some_guests(random, &bands);
+        let Parts { operators, rides, presence, .. } =
+            if turn == 0 { draft.parts() } else { whole_parts(random, draft.head) };
+        let presence = match turn {
+            0 => Part::filled(presence.len, PRESENT),
+            4 | 8 | 12 => Part::changed(presence.len, 0, &presence_of(random, nodes)),
+            _ => presence,
+        };
+        let marks = Part::filled(random.length(nodes), random.word());
+        stream.call(Call::CrowdCover { head: draft.head, guests, bands, operators, rides, presence, marks });
+    }
+}
+
 /// Pair arrays of the largest size that are wrong at one place only, and parts that are short by one place.
 fn large_refusals(random: &mut Random, stream: &mut Stream) {
     let pairs = random.table_of(200, 60, 900);
@@ -1319,6 +1582,16 @@ fn calls(random: &mut Random) -> Stream {
     }
     large_refusals(random, &mut stream);
     large_calls(random, &mut stream);
+    sample_crowds(random, &mut stream);
+    for _ in 0..160 {
+        let case = crowd_limits_case(random);
+        stream.call(case);
+    }
+    for _ in 0..300 {
+        let case = crowd_cover_case(random);
+        stream.call(case);
+    }
+    large_crowds(random, &mut stream);
     write_end(&mut stream.bytes);
     let tally = &stream.tally;
     tally.covers("build", &[0, 1, 2, 3, 4, 5, 9], 60);
@@ -1329,6 +1602,12 @@ fn calls(random: &mut Random) -> Stream {
     tally.covers_kinds("query", &ABSENCES[..5], 30);
     tally.covers_kinds("peel", &ABSENCES[..4], 30);
     tally.covers_kinds("peel", &ABSENCES[5..], 30);
+    tally.covers("crowd limits", &[0, 16, 17, 18], 20);
+    tally.covers("crowd cover", &[0, 1, 2, 3, 4, 5, 16, 17, 18], 10);
+    tally.covers_kinds("crowd limits", &CROWDS[..6], 5);
+    tally.covers_kinds("crowd cover", &CROWDS, 5);
+    tally.covers_kinds("crowd cover", &ZEROS[..6], 3);
+    tally.covers_kinds("crowd cover", &ABSENCES[..4], 5);
     stream
 }
 

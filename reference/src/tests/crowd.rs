@@ -3,6 +3,7 @@
 use super::*;
 use crate::crowd::{crowd_cover, crowd_limits, Band, Bands, CrowdLimits};
 use crate::crowd_samples::{followed, Lent, BESIDE, CROWD_COVERS, FIVE, LENT, LOOK_UPS, REFUSED, UNREAD};
+use crate::frames::{replay, write_end, Call, Part, Reference};
 
 /// A table, and the same with each of `UNREAD` past the count.
 fn tables(table: Bands) -> Vec<Bands> {
@@ -244,4 +245,26 @@ fn crowd_covers_are_covers() {
             }
         }
     }
+}
+
+/// A look-up's checksum is that of no words, a crowd cover's that of operators, rides, presence and marks.
+#[test]
+fn lines_of_a_stream() {
+    let head = Head { operators: 1, rides: 1, pairs: 1 };
+    let bands = one_band(1, 0);
+    let cover = |guests| Call::CrowdCover {
+        head,
+        guests,
+        bands,
+        operators: Part::given(2, &[0, 3], 0),
+        rides: Part::filled(1, 0),
+        presence: Part::filled(2, 1),
+        marks: Part::given(3, &[7, 7, 5], 0),
+    };
+    let mut stream = Vec::new();
+    for call in [Call::CrowdLimits { guests: 9, bands }, cover(9), cover(20_001)] {
+        call.write(&mut stream);
+    }
+    write_end(&mut stream);
+    assert_eq!(replay(&stream, &mut Reference), "0 1 0 0\n0 1 1 927099214\n16 0 0 977061850\n");
 }
