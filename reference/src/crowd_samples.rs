@@ -55,7 +55,7 @@ pub type Asked = (u16, (u16, u16), Words);
 pub const FIVE: Bands =
     table(&[(5_000, 8_999, 1, 3), (9_000, 14_999, 2, 2), (1_000, 4_999, 0, 2), (0, 999, 0, 0), (15_000, 20_000, 1, 4)]);
 
-/// As many bands as there may be, of which four have one guest count: 0, 1, 19,999 and 20,000.
+/// As many bands as there may be, of which five have one guest count: 0, 1, 256, 19,999 and 20,000.
 const EIGHT: Bands = table(&[
     (10_000, 19_998, 65_535, 0),
     (20_000, 20_000, 1, 3),
@@ -154,7 +154,7 @@ pub const CROWD_COVERS: &[CrowdCover] = &[
 pub type Refused = (Bands, u16, u16);
 
 const WHOLE: Given = (0, 20_000, 1, 3);
-/// A band that isn't formed.
+/// A band whose first guest count exceeds its last.
 const MALFORMED: Given = (5, 4, 2, 2);
 
 pub const REFUSED: &[Refused] = &[
@@ -173,7 +173,7 @@ pub const REFUSED: &[Refused] = &[
     (table(&[(0, 4, 1, 1), (1, 0, 2, 2), (5, 20_000, 1, 1)]), 0, 16),
     (table(&[(20_000, 0, 1, 3)]), 7, 16),
     (table(&[(256, 255, 1, 3), WHOLE]), 7, 16),
-    // A guest count above 20,000 in a band: its last alone, or both.
+    // A guest count above 20,000 in a band: its last, its first or both.
     (table(&[(0, 20_001, 1, 3)]), 0, 16),
     (table(&[(0, 65_535, 1, 3)]), 0, 16),
     (table(&[(0, 20_000, 1, 3), (20_001, 20_001, 2, 2)]), 0, 16),
@@ -212,7 +212,7 @@ pub const REFUSED: &[Refused] = &[
         0,
         17,
     ),
-    // An overlap and a gap, the widths adding up to 20,001 or not.
+    // An overlap and a gap, whether the bands have 20,001 guest counts together or not: 17 comes before 18.
     (table(&[(0, 10_000, 1, 3), (10_000, 19_999, 2, 2)]), 0, 17),
     (table(&[(0, 100, 1, 3), (50, 200, 2, 2)]), 0, 17),
     (table(&[(5, 5, 1, 3), (5, 5, 1, 3)]), 5, 17),
@@ -229,7 +229,7 @@ pub const REFUSED: &[Refused] = &[
     // The band that would fill the gap stands past the count.
     (counted(2, &[(0, 99, 1, 3), (101, 20_000, 2, 2), (100, 100, 1, 3)]), 100, 18),
     (Bands { count: 7, ..EIGHT }, 0, 18),
-    // 16 comes before 17 and 18, and 17 before 18.
+    // 16 comes before 17 and 18.
     (table(&[WHOLE, WHOLE]), 20_001, 16),
     (table(&[WHOLE, WHOLE, MALFORMED]), 0, 16),
     (table(&[(0, 20_001, 1, 3), WHOLE]), 0, 16),
