@@ -1,8 +1,10 @@
 //! One call on the library and on the reference, from equal memory: the answers and every lent word are compared.
 
 mod covers;
+mod crowd;
 
 pub use covers::{CoverTotals, LimitList, PairTable};
+pub use crowd::CrowdTotals;
 
 use crate::numbers::Numbers;
 use covers::CoverRegions;
@@ -42,12 +44,14 @@ pub const MOST: Lengths = Parts {
 pub const MARKS_MOST: usize = 400;
 pub const LIST_MOST: usize = 400;
 
-/// The numbers that each call can give: document 01's, with document 02's 14 and 15 and without its 11.
+/// The numbers that each call can give: document 01's, with document 02's 14 to 18 and without its 11.
 const BUILD_NUMBERS: &[u16] = &[0, 1, 2, 3, 4, 5, 9];
 const QUERY_NUMBERS: &[u16] = &[0, 1, 2, 3];
 const PEEL_NUMBERS: &[u16] = &[0, 1, 2, 3, 4, 5, 12];
 const MESSAGE_NUMBERS: &[u16] = &[0, 1, 2, 3, 4, 5, 6, 7, 8, 9, 10, 14, 15];
 const LIST_NUMBERS: &[u16] = &[0, 1, 2, 3, 4, 5, 6];
+const CROWD_LIMITS_NUMBERS: &[u16] = &[0, 16, 17, 18];
+const CROWD_COVER_NUMBERS: &[u16] = &[0, 1, 2, 3, 4, 5, 16, 17, 18];
 /// Those of a message of a list that isn't refused.
 const LISTED_NUMBERS: &[u16] = &[0, 7, 8, 9, 10, 14, 15];
 
@@ -143,25 +147,32 @@ pub struct Totals {
     pub alpha_zero: u64,
     pub beta_zero: u64,
     pub both_zero: u64,
-    /// Accepted queries and peels with somebody off or out.
+    /// Accepted queries, peels and crowd covers with somebody off or out.
     pub absent: u64,
     pub words: u64,
     pub largest: u64,
     pub deliveries: u64,
     pub covers: CoverTotals,
+    pub crowd: CrowdTotals,
     pub differences: u64,
 }
 
 impl Totals {
     pub fn calls(&self) -> u64 {
-        self.builds + self.queries + self.peels + self.messages + self.lists + self.previews
+        let of_messages = self.messages + self.lists + self.previews;
+        self.builds + self.queries + self.peels + of_messages + self.crowd.look_ups + self.crowd.covers
     }
 
     /// Counts a number that a call gave.
-    fn number(&mut self, call: &str, can_give: &[u16], head: Head, code: u16) {
-        self.largest += (code == 0 && (head.operators, head.rides) == (200, 60)) as u64;
+    fn given(&mut self, call: &str, can_give: &[u16], code: u16) {
         *self.numbers.entry(code).or_default() += 1;
         self.check_number(call, can_give, code);
+    }
+
+    /// The same of a call that is lent a board.
+    fn number(&mut self, call: &str, can_give: &[u16], head: Head, code: u16) {
+        self.largest += (code == 0 && (head.operators, head.rides) == (200, 60)) as u64;
+        self.given(call, can_give, code);
     }
 
     /// Counts a message that got a number, by its kind where it is taken.
@@ -185,7 +196,7 @@ impl Totals {
         }
     }
 
-    /// Counts an accepted query or peel: limits that have a 0 among them, and somebody off or out.
+    /// Counts an accepted query, peel or crowd cover: limits that have a 0 among them, and somebody off or out.
     fn accepted(&mut self, head: Head, alpha: u16, beta: u16, presence: &[u16]) {
         match (alpha, beta) {
             (0, 0) => self.both_zero += 1,
@@ -394,7 +405,7 @@ impl<B: Library> Compared<B> {
 mod tests {
     use super::*;
 
-    /// 14 and 15 are for messages and previews alone, 11 and 13 are for no call.
+    /// 14 and 15 are for messages and previews alone, 16 to 18 for look-ups and crowd covers, 11 and 13 for no call.
     #[test]
     fn a_number_that_a_call_cannot_give_is_a_difference() {
         let head = Head { operators: 4, rides: 3, pairs: 7 };
@@ -405,11 +416,17 @@ mod tests {
             (MESSAGE_NUMBERS, 13),
             (LIST_NUMBERS, 7),
             (LISTED_NUMBERS, 7),
+            (CROWD_LIMITS_NUMBERS, 4),
+            (CROWD_COVER_NUMBERS, 9),
         ] {
             let mut totals = Totals::default();
             (0..=20).for_each(|code| totals.number("call", can_give, head, code));
             assert_eq!((totals.numbers.values().sum::<u64>(), totals.differences), (21, 21 - count));
             assert!(!can_give.contains(&11) && !can_give.contains(&13));
+            let is_of_bands = [CROWD_LIMITS_NUMBERS, CROWD_COVER_NUMBERS].contains(&can_give);
+            assert!((16..=18).all(|number| can_give.contains(&number) == is_of_bands));
+            let is_of_messages = [MESSAGE_NUMBERS, LISTED_NUMBERS].contains(&can_give);
+            assert!((14..=15).all(|number| can_give.contains(&number) == is_of_messages));
         }
     }
 

@@ -1,10 +1,10 @@
 //! The comparison itself is tried: between the reference and itself it finds nothing, and it finds each of these faults,
 //! or the fault stops the program.
 
-use crate::compared::{Compared, CoverTotals, Totals};
+use crate::compared::{Compared, CoverTotals, CrowdTotals, Totals};
 use crate::faulty::Faulty;
 use crate::numbers::Numbers;
-use crate::sequences::{covers, delivery, sequence, Size};
+use crate::sequences::{covers, crowd, delivery, sequence, Size};
 use reference::{GRANT, OPERATOR_OFF, OPERATOR_ON, RIDE_IN, RIDE_OUT, WITHDRAWAL};
 use std::os::unix::process::ExitStatusExt;
 use std::process::Command;
@@ -186,11 +186,32 @@ pub enum Fault {
     TableCover(Wrong),
     /// The filling of tables goes wrong.
     Tables(WrongTables),
+    /// A look-up goes wrong.
+    LookUp(WrongBands),
+    /// The look-up of a crowd cover goes wrong.
+    CrowdLookUp(WrongBands),
+    /// A crowd cover goes wrong otherwise.
+    CrowdCover(WrongCrowd),
 }
 
+/// What is compared in one round.
+type Round = fn(&mut Compared<Faulty>, &mut Numbers);
+
+const SEQUENCE_AND_DELIVERY: Round = |compared, numbers| {
+    sequence(compared, numbers, Size::Small);
+    delivery(compared, numbers, Size::Small);
+};
+const COVERS: Round = |compared, numbers| covers(compared, numbers, Size::Small);
+const CROWD: Round = |compared, numbers| (0..4).for_each(|_| crowd(compared, numbers, Size::Small));
+
 impl Fault {
-    fn is_of_covers(self) -> bool {
-        matches!(self, Fault::PairCover(_) | Fault::TableCover(_) | Fault::Tables(_))
+    /// The round that finds it.
+    fn round(self) -> Round {
+        match self {
+            Fault::PairCover(_) | Fault::TableCover(_) | Fault::Tables(_) => COVERS,
+            Fault::LookUp(_) | Fault::CrowdLookUp(_) | Fault::CrowdCover(_) => CROWD,
+            _ => SEQUENCE_AND_DELIVERY,
+        }
     }
 }
 
@@ -259,6 +280,100 @@ pub enum CoverPart {
     ByOperator,
     ByRide,
     Limits,
+}
+
+/// How a look-up goes wrong.
+#[derive(Clone, Copy, Debug, PartialEq, Eq)]
+pub enum WrongBands {
+    /// Two bands may share one guest count, the last of one and the first of the other; it is the other's.
+    TouchAccepted,
+    /// A band may lie inside another or equal it; then it isn't read.
+    InsideAccepted,
+    /// A gap at 0 is accepted; its guest counts are the lowest band's.
+    GapLowAccepted,
+    /// A gap at 20,000 is accepted; its guest counts are the highest band's.
+    GapHighAccepted,
+    /// A gap between two bands is accepted; its guest counts are the lower one's.
+    GapInsideAccepted,
+    /// The same of a gap of one guest count.
+    GapOfOneAccepted,
+    /// Bands that have 20,001 guest counts together are accepted.
+    WidthsEnough,
+    /// 18 is given before 17.
+    GapFirst,
+    /// 17 is given before 16.
+    OverlapFirst,
+    /// Bands past the count are read.
+    PastCountRead,
+    /// A gap that the band past the count closes is accepted.
+    PastCountCloses,
+    /// 17 is given where a band past the count shares a guest count.
+    PastCountShares,
+    /// A count of 9 is read as 8.
+    NineIsEight,
+    /// A count of 0 is read as 1.
+    ZeroIsOne,
+    /// Of the count the low byte is read.
+    CountLowByte,
+    /// A band whose first guest count exceeds its last is read the other way round.
+    EndsExchanged,
+    /// A band whose first guest count exceeds its last isn't read.
+    EmptySkipped,
+    /// A band to 20,001 is accepted.
+    BandAboveAccepted,
+    /// 16 is given where 20,000 is asked for.
+    MostRefused,
+    /// 20,001 is asked for, and 20,000 is looked up.
+    AboveAccepted,
+    /// 18 is given where more than 20,000 is asked for.
+    AboveIsGap,
+    /// The limits of the next band are given.
+    LimitsOfNext,
+    /// The limits of the first band are given.
+    LimitsOfFirst,
+    /// Alpha is for rides and beta for operators.
+    LimitsExchanged,
+    /// The last guest count of a band is the next one's.
+    LastExcluded,
+    /// The limits of a band are given beside a refusal.
+    LimitsThoughRefused,
+}
+
+/// How a crowd cover goes wrong otherwise.
+#[derive(Clone, Copy, Debug, PartialEq, Eq)]
+pub enum WrongCrowd {
+    /// One of 16 to 18 is given before 1 to 5.
+    BeforeBoard(u16),
+    /// 12 is given where a mark in use is not 0 or 1.
+    Twelve,
+    /// A part that is too short is not refused.
+    Short(usize),
+    /// Too few marks are not refused.
+    ShortMarks,
+    /// The words of presence are read otherwise.
+    Presence(Reading),
+    /// Whoever is off or out is kept where its limit is 0.
+    ZeroKeepsAbsent,
+    /// Whoever has its limit of neighbours that are on or in is kept.
+    DegreesAlone,
+    /// Rides and operators are swept once, by the neighbours that are marked then.
+    SweptOnce,
+    /// Whoever came in without a mark gets none, and isn't counted as a neighbour.
+    MarksAsCame,
+    /// The marks past the nodes are cleared too.
+    MarksPastNodes,
+    /// A mark is written beside a refusal.
+    MarksThoughRefused,
+    /// A count is given beside a refusal.
+    CountsThoughRefused,
+    /// Operators are counted as rides, and rides as operators.
+    CountsExchanged,
+    /// A byte beside the marks is written.
+    WritesBeside,
+    /// A byte past the end of the marks is written.
+    WritesPast,
+    /// A byte of a part that is lent to be read is written.
+    Writes(usize),
 }
 
 /// How words of presence are read where it isn't as they should be.
@@ -451,6 +566,78 @@ const FAULTS: &[Fault] = &[
     Fault::Tables(WrongTables::NotHereCounts),
     Fault::Tables(WrongTables::DegreesOfAll),
     Fault::Tables(WrongTables::WritesBeside),
+    Fault::LookUp(WrongBands::TouchAccepted),
+    Fault::LookUp(WrongBands::InsideAccepted),
+    Fault::LookUp(WrongBands::GapLowAccepted),
+    Fault::LookUp(WrongBands::GapHighAccepted),
+    Fault::LookUp(WrongBands::GapInsideAccepted),
+    Fault::LookUp(WrongBands::GapOfOneAccepted),
+    Fault::LookUp(WrongBands::WidthsEnough),
+    Fault::LookUp(WrongBands::GapFirst),
+    Fault::LookUp(WrongBands::OverlapFirst),
+    Fault::LookUp(WrongBands::PastCountRead),
+    Fault::LookUp(WrongBands::PastCountCloses),
+    Fault::LookUp(WrongBands::PastCountShares),
+    Fault::LookUp(WrongBands::NineIsEight),
+    Fault::LookUp(WrongBands::ZeroIsOne),
+    Fault::LookUp(WrongBands::CountLowByte),
+    Fault::LookUp(WrongBands::EndsExchanged),
+    Fault::LookUp(WrongBands::EmptySkipped),
+    Fault::LookUp(WrongBands::BandAboveAccepted),
+    Fault::LookUp(WrongBands::MostRefused),
+    Fault::LookUp(WrongBands::AboveAccepted),
+    Fault::LookUp(WrongBands::AboveIsGap),
+    Fault::LookUp(WrongBands::LimitsOfNext),
+    Fault::LookUp(WrongBands::LimitsOfFirst),
+    Fault::LookUp(WrongBands::LimitsExchanged),
+    Fault::LookUp(WrongBands::LastExcluded),
+    Fault::LookUp(WrongBands::LimitsThoughRefused),
+    Fault::CrowdLookUp(WrongBands::TouchAccepted),
+    Fault::CrowdLookUp(WrongBands::InsideAccepted),
+    Fault::CrowdLookUp(WrongBands::GapLowAccepted),
+    Fault::CrowdLookUp(WrongBands::GapHighAccepted),
+    Fault::CrowdLookUp(WrongBands::GapInsideAccepted),
+    Fault::CrowdLookUp(WrongBands::GapOfOneAccepted),
+    Fault::CrowdLookUp(WrongBands::WidthsEnough),
+    Fault::CrowdLookUp(WrongBands::GapFirst),
+    Fault::CrowdLookUp(WrongBands::OverlapFirst),
+    Fault::CrowdLookUp(WrongBands::PastCountRead),
+    Fault::CrowdLookUp(WrongBands::PastCountCloses),
+    Fault::CrowdLookUp(WrongBands::PastCountShares),
+    Fault::CrowdLookUp(WrongBands::NineIsEight),
+    Fault::CrowdLookUp(WrongBands::ZeroIsOne),
+    Fault::CrowdLookUp(WrongBands::CountLowByte),
+    Fault::CrowdLookUp(WrongBands::EndsExchanged),
+    Fault::CrowdLookUp(WrongBands::EmptySkipped),
+    Fault::CrowdLookUp(WrongBands::BandAboveAccepted),
+    Fault::CrowdLookUp(WrongBands::MostRefused),
+    Fault::CrowdLookUp(WrongBands::AboveAccepted),
+    Fault::CrowdLookUp(WrongBands::AboveIsGap),
+    Fault::CrowdLookUp(WrongBands::LimitsOfNext),
+    Fault::CrowdLookUp(WrongBands::LimitsOfFirst),
+    Fault::CrowdLookUp(WrongBands::LimitsExchanged),
+    Fault::CrowdLookUp(WrongBands::LastExcluded),
+    Fault::CrowdCover(WrongCrowd::BeforeBoard(16)),
+    Fault::CrowdCover(WrongCrowd::BeforeBoard(17)),
+    Fault::CrowdCover(WrongCrowd::BeforeBoard(18)),
+    Fault::CrowdCover(WrongCrowd::Twelve),
+    Fault::CrowdCover(WrongCrowd::Short(OPERATORS)),
+    Fault::CrowdCover(WrongCrowd::Short(RIDES)),
+    Fault::CrowdCover(WrongCrowd::Short(PRESENCE)),
+    Fault::CrowdCover(WrongCrowd::ShortMarks),
+    Fault::CrowdCover(WrongCrowd::Presence(Reading::OffIsOn)),
+    Fault::CrowdCover(WrongCrowd::Presence(Reading::OutIsIn)),
+    Fault::CrowdCover(WrongCrowd::Presence(Reading::NotZero)),
+    Fault::CrowdCover(WrongCrowd::Presence(Reading::LowByte)),
+    Fault::CrowdCover(WrongCrowd::ZeroKeepsAbsent),
+    Fault::CrowdCover(WrongCrowd::DegreesAlone),
+    Fault::CrowdCover(WrongCrowd::SweptOnce),
+    Fault::CrowdCover(WrongCrowd::MarksAsCame),
+    Fault::CrowdCover(WrongCrowd::MarksPastNodes),
+    Fault::CrowdCover(WrongCrowd::MarksThoughRefused),
+    Fault::CrowdCover(WrongCrowd::CountsThoughRefused),
+    Fault::CrowdCover(WrongCrowd::CountsExchanged),
+    Fault::CrowdCover(WrongCrowd::WritesBeside),
 ];
 
 /// Faults that stop the program.
@@ -476,19 +663,18 @@ const STOPS: &[Fault] = &[
     Fault::Tables(WrongTables::Writes(CoverPart::Operators)),
     Fault::Tables(WrongTables::Writes(CoverPart::Rides)),
     Fault::Tables(WrongTables::Writes(CoverPart::Here)),
+    Fault::CrowdCover(WrongCrowd::WritesPast),
+    Fault::CrowdCover(WrongCrowd::Writes(OPERATORS)),
+    Fault::CrowdCover(WrongCrowd::Writes(RIDES)),
+    Fault::CrowdCover(WrongCrowd::Writes(PRESENCE)),
 ];
 
-/// What sequences and deliveries find, or covers, until it is enough.
-fn found(fault: Fault, are_covers: bool, enough: fn(&Totals) -> bool) -> Totals {
+/// What so many rounds find, until it is enough.
+fn found(fault: Fault, round: Round, enough: fn(&Totals) -> bool) -> Totals {
     let mut numbers = Numbers::new(1);
     let mut compared = Compared::new(Faulty(fault), 1);
     for _ in 0..600 {
-        if are_covers {
-            covers(&mut compared, &mut numbers, Size::Small);
-        } else {
-            sequence(&mut compared, &mut numbers, Size::Small);
-            delivery(&mut compared, &mut numbers, Size::Small);
-        }
+        round(&mut compared, &mut numbers);
         if enough(&compared.totals) {
             break;
         }
@@ -498,31 +684,41 @@ fn found(fault: Fault, are_covers: bool, enough: fn(&Totals) -> bool) -> Totals 
 
 /// Among the calls are previews that give each of 0 to 10, 14 and 15, whose message is then sent, and whose spare
 /// memory is then the board; messages of all six kinds are taken; queries and peels are accepted with somebody off or
-/// out.
+/// out; a query is made for the limits of a crowd cover.
 #[test]
 fn the_reference_does_not_differ_from_itself() {
-    let totals = found(Fault::None, false, |totals| totals.deliveries == 200);
+    let totals = found(Fault::None, SEQUENCE_AND_DELIVERY, |totals| totals.deliveries == 200);
     assert_eq!(totals.differences, 0);
     assert!(totals.preview_numbers.keys().copied().eq((0..=10).chain([14, 15])), "{:?}", totals.preview_numbers);
     assert!(totals.sent > 0 && totals.exchanged > 0, "{} {}", totals.sent, totals.exchanged);
     assert!(totals.taken_kinds.keys().copied().eq(1..=6), "{:?}", totals.taken_kinds);
-    assert!(totals.absent > 0);
+    assert!(totals.absent > 0 && totals.crowd.queried > 0, "{} {}", totals.absent, totals.crowd.queried);
 }
 
 /// Some nodes are dropped and some are kept.
 #[test]
 fn covers_of_the_reference_do_not_differ() {
-    let totals = found(Fault::None, true, |_| false);
+    let totals = found(Fault::None, COVERS, |_| false);
     assert_eq!(totals.differences, 0);
     let CoverTotals { from_pairs, over_tables, tables, dropped, kept, .. } = totals.covers;
     assert!(tables == 600 && over_tables > tables && from_pairs > tables, "{over_tables} {from_pairs}");
     assert!(dropped > 1000 && kept > 1000, "{dropped} {kept}");
 }
 
+/// Each number that a look-up and a crowd cover can give is given.
+#[test]
+fn look_ups_and_crowd_covers_of_the_reference_do_not_differ() {
+    let totals = found(Fault::None, CROWD, |_| false);
+    assert_eq!(totals.differences, 0);
+    let CrowdTotals { look_up_numbers, cover_numbers, .. } = totals.crowd;
+    assert!(look_up_numbers.keys().copied().eq([0, 16, 17, 18]), "{look_up_numbers:?}");
+    assert!(cover_numbers.keys().copied().eq((0..=5).chain(16..=18)), "{cover_numbers:?}");
+}
+
 #[test]
 fn each_fault_is_found() {
     for fault in FAULTS {
-        let totals = found(*fault, fault.is_of_covers(), |totals| totals.differences > 0);
+        let totals = found(*fault, fault.round(), |totals| totals.differences > 0);
         assert!(totals.differences > 0, "{fault:?} is not found");
     }
 }
@@ -533,7 +729,7 @@ fn each_write_outside_stops_the_program() {
     let name = "faults::each_write_outside_stops_the_program";
     if let Ok(wanted) = std::env::var("FAULT") {
         let fault = STOPS.iter().find(|fault| format!("{fault:?}") == wanted).unwrap();
-        found(*fault, fault.is_of_covers(), |_| false);
+        found(*fault, fault.round(), |_| false);
         return;
     }
     const SEGMENTATION_FAULT: i32 = 11;

@@ -1,11 +1,13 @@
 //! The reference with one of the faults of `faults.rs`.
 
 mod covers;
+mod crowd;
 
 use crate::faults::{Fault, Reading};
 use crate::faults::{INDEX, OPERATORS, PRESENCE, PRESENCE_REVISIONS, PRESENCE_STAMPS, REVISIONS, RIDES, STAMPS};
 use differential::guarded::PAGE;
 use differential::Library;
+use reference::crowd::{Bands, CrowdLimits};
 use reference::frames::{Board, Reference};
 use reference::{Answer, Counts, Head, Lengths, Message, Parts, Peeled, Slices, Vectors, Views};
 use reference::{GRANT, OPERATOR_OFF, OPERATOR_ON, PRESENT, RIDE_IN, RIDE_OUT, WITHDRAWAL};
@@ -627,5 +629,22 @@ impl Library for Faulty {
             _ => {}
         }
         answer
+    }
+
+    fn crowd_limits(&mut self, bands: Bands, guests: u16) -> CrowdLimits {
+        self.look_up(&bands, guests)
+    }
+
+    fn crowd_cover(
+        &mut self,
+        head: Head,
+        operators: &[u16],
+        rides: &[u16],
+        presence: &[u16],
+        bands: Bands,
+        guests: u16,
+        marks: &mut [u16],
+    ) -> Counts {
+        self.cover_for(crowd::Lent { head, operators, rides, presence }, &bands, guests, marks)
     }
 }

@@ -1,5 +1,5 @@
-//! Random sequences of the calls, and covers under lists of limits, on the library and on the reference, for so many seconds,
-//! from a seed.
+//! Random sequences of the calls, look-ups and crowd covers, and covers under lists of limits, on the library and on the
+//! reference, for so many seconds, from a seed.
 
 mod compared;
 #[cfg(test)]
@@ -12,7 +12,7 @@ mod sequences;
 use compared::{Compared, Totals};
 use differential::Proved;
 use numbers::Numbers;
-use sequences::{covers, delivery, sequence, Size};
+use sequences::{covers, crowd, delivery, sequence, Size};
 use std::time::{Duration, Instant, SystemTime, UNIX_EPOCH};
 
 fn print_totals(totals: &Totals) {
@@ -23,17 +23,28 @@ fn print_totals(totals: &Totals) {
         "  preview {}, its message then sent {}, its spare memory then the board {}",
         totals.previews, totals.sent, totals.exchanged
     );
+    println!(
+        "  look-up {}, crowd cover {}, a query for its limits then made {}",
+        totals.crowd.look_ups, totals.crowd.covers, totals.crowd.queried
+    );
     println!("  accepted on boards of 200 × 60: {}", totals.largest);
     println!("  peels settled {}, unsettled {}", totals.settled, totals.unsettled);
     println!(
         "  accepted with α = 0 alone {}, with β = 0 alone {}, with both 0 {}",
         totals.alpha_zero, totals.beta_zero, totals.both_zero
     );
-    println!("  accepted queries and peels with somebody off or out {}", totals.absent);
+    println!("  accepted queries, peels and crowd covers with somebody off or out {}", totals.absent);
     println!("  messages taken, by kind: {:?}", totals.taken_kinds);
     println!("  answers by number: {:?}", totals.numbers);
     println!("  answers of previews: {:?}", totals.preview_numbers);
     println!("  answers of messages of lists: {:?}", totals.listed_numbers);
+    println!("  answers of look-ups: {:?}", totals.crowd.look_up_numbers);
+    println!("  answers of crowd covers: {:?}", totals.crowd.cover_numbers);
+    let [valid, malformed, overlapping, gapped] = [0, 16, 17, 18].map(|number| totals.crowd.tables(number));
+    println!(
+        "  tables of bands by these: valid {valid}, malformed or asked for more than 20,000 guests {malformed}, \
+         overlapping {overlapping}, gapped {gapped}"
+    );
     println!("message sets delivered in three orders: {}", totals.deliveries);
     println!("covers under a list of limits compared: {}", totals.covers.compared());
     println!(
@@ -46,13 +57,17 @@ fn print_totals(totals: &Totals) {
     println!("differences: {}", totals.differences);
 }
 
-/// Covers are compared on four boards after each sequence or delivery, most of them small.
-fn cover_sizes(numbers: &mut Numbers) -> [Size; 4] {
-    [(); 4].map(|_| match numbers.below(100) {
+/// After each sequence or delivery covers are compared on so many boards, and crowd covers on so many others.
+const COVER_BOARDS: usize = 4;
+const CROWD_BOARDS: usize = 3;
+
+/// The size of such a board: most of them are small.
+fn cover_size(numbers: &mut Numbers) -> Size {
+    match numbers.below(100) {
         0 => Size::Large,
         1..=15 => Size::Middle,
         _ => Size::Small,
-    })
+    }
 }
 
 fn main() {
@@ -75,8 +90,13 @@ fn main() {
             27..=50 => delivery(&mut compared, &mut numbers, Size::Small),
             _ => sequence(&mut compared, &mut numbers, Size::Small),
         }
-        for size in cover_sizes(&mut numbers) {
+        for _ in 0..COVER_BOARDS {
+            let size = cover_size(&mut numbers);
             covers(&mut compared, &mut numbers, size);
+        }
+        for _ in 0..CROWD_BOARDS {
+            let size = cover_size(&mut numbers);
+            crowd(&mut compared, &mut numbers, size);
         }
         if Duration::from_secs(10) <= told.elapsed() {
             let totals = &compared.totals;

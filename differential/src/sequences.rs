@@ -1,9 +1,11 @@
-//! Random sequences of calls, with damaged input among them, deliveries of the same messages in several orders, and covers
-//! under lists of limits.
+//! Random sequences of calls, with damaged input among them, deliveries of the same messages in several orders, look-ups
+//! and crowd covers, and covers under lists of limits.
 
 mod covers;
+mod crowd;
 
 pub use covers::covers;
+pub use crowd::crowd;
 
 use crate::compared::{Compared, Lent, LIST_MOST, MARKS_MOST, MOST};
 use crate::numbers::Numbers;
@@ -258,6 +260,12 @@ fn marks(numbers: &mut Numbers, head: Head) -> Vec<u16> {
     }
     marks.truncate(MARKS_MOST);
     marks
+}
+
+/// Marks of any content, as many as needed or a few more.
+fn any_marks(numbers: &mut Numbers, needed: usize) -> Vec<u16> {
+    let words = [0, 1, 1, 2, 65535, numbers.word()];
+    (0..length(numbers, needed)).map(|_| numbers.of(&words)).collect()
 }
 
 /// A revision: mostly a small one, so that many are equal; some are near 255, or far above it.
@@ -570,7 +578,8 @@ fn worked_out(built: &Lent, book: &Book) -> Lent {
 }
 
 /// Demand 3 on the library itself: the same messages in three orders, one the reverse of another and one with repeats,
-/// leave the same board, the one that is worked out from the latest message of each pair, operator and ride.
+/// leave the same board, the one that is worked out from the latest message of each pair, operator and ride. Its index is
+/// its own, so that crowd covers on it are those of queries.
 pub fn delivery<B: Library>(compared: &mut Compared<B>, numbers: &mut Numbers, size: Size) {
     let (n, m) = size.numbers(numbers);
     let pairs = table(numbers, n, m);
@@ -599,4 +608,5 @@ pub fn delivery<B: Library>(compared: &mut Compared<B>, numbers: &mut Numbers, s
         }
     }
     compared.totals.deliveries += 1;
+    crowd::queried(compared, numbers, &expected);
 }

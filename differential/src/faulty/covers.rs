@@ -25,7 +25,7 @@ fn read(wrong: Wrong, head: Head, here: &[u8], limits: &[u16]) -> Vec<u16> {
 }
 
 /// One sweep of the rides and one of the operators.
-fn swept_once(head: Head, operators: &[u16], rides: &[u16], here: &[u8], limits: &[u16]) -> Vec<u16> {
+pub fn swept_once(head: Head, operators: &[u16], rides: &[u16], here: &[u8], limits: &[u16]) -> Vec<u16> {
     let (n, nodes) = (head.operators as usize, head.nodes());
     let pairs = || operators.iter().zip(rides).take(head.pairs as usize);
     let mut marks = vec![1; nodes];

@@ -1,6 +1,6 @@
 //! Covers under random lists of limits. What is lent meets what the functions require: they test nothing.
 
-use super::{length, table, Size};
+use super::{any_marks, length, table, Size};
 use crate::compared::{Compared, LimitList, PairTable};
 use crate::numbers::Numbers;
 use differential::Kernel;
@@ -80,9 +80,7 @@ fn limit_list(numbers: &mut Numbers, table: &PairTable, degrees: &[u8]) -> Limit
         .collect();
     let places = length(numbers, nodes);
     limits.resize_with(places, || numbers.word());
-    let words = [0, 1, 1, 2, 65535, numbers.word()];
-    let marks = (0..length(numbers, nodes)).map(|_| numbers.of(&words)).collect();
-    LimitList { limits, marks }
+    LimitList { limits, marks: any_marks(numbers, nodes) }
 }
 
 /// A pair table and some lists: a cover over tables for each, one after another, and one from the pairs for half of them.
