@@ -358,6 +358,23 @@ impl Board for Faulty {
         }
         code
     }
+
+    fn crowd_limits(&mut self, bands: Bands, guests: u16) -> CrowdLimits {
+        self.look_up(&bands, guests)
+    }
+
+    fn crowd_cover(
+        &mut self,
+        head: Head,
+        operators: &[u16],
+        rides: &[u16],
+        presence: &[u16],
+        bands: Bands,
+        guests: u16,
+        marks: &mut [u16],
+    ) -> Counts {
+        self.cover_for(crowd::Lent { head, operators, rides, presence }, &bands, guests, marks)
+    }
 }
 
 /// Takes a message on a board of which some listed pairs have stamp 0. These keep it, but for the message's own.
@@ -629,22 +646,5 @@ impl Library for Faulty {
             _ => {}
         }
         answer
-    }
-
-    fn crowd_limits(&mut self, bands: Bands, guests: u16) -> CrowdLimits {
-        self.look_up(&bands, guests)
-    }
-
-    fn crowd_cover(
-        &mut self,
-        head: Head,
-        operators: &[u16],
-        rides: &[u16],
-        presence: &[u16],
-        bands: Bands,
-        guests: u16,
-        marks: &mut [u16],
-    ) -> Counts {
-        self.cover_for(crowd::Lent { head, operators, rides, presence }, &bands, guests, marks)
     }
 }

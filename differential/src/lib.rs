@@ -1,5 +1,5 @@
-//! The proved library's calls, as the static library exports them, behind the reference's trait and one for previews,
-//! look-ups and crowd covers, and the functions of `libkernel.a` behind one for covers under limits.
+//! The proved library's calls, as the static library exports them, behind the reference's trait and one for previews, and
+//! the functions of `libkernel.a` behind one for covers under limits.
 
 pub mod guarded;
 pub mod kernel;
@@ -10,7 +10,7 @@ use reference::crowd::{Band, Bands, CrowdLimits};
 use reference::frames::Board;
 use reference::{Answer, Counts, Head, Message, Parts, Peeled, Slices, Views};
 
-/// The calls that are compared: those that a stream has, previews, look-ups and crowd covers.
+/// The calls that are compared: those that a stream has, and previews.
 pub trait Library: Board {
     fn preview(
         &mut self,
@@ -20,22 +20,6 @@ pub trait Library: Board {
         spare_head: &mut Head,
         spare: &mut Slices,
     ) -> Answer;
-
-    /// The look-up.
-    fn crowd_limits(&mut self, bands: Bands, guests: u16) -> CrowdLimits;
-
-    /// The cover for a guest count.
-    #[allow(clippy::too_many_arguments)]
-    fn crowd_cover(
-        &mut self,
-        head: Head,
-        operators: &[u16],
-        rides: &[u16],
-        presence: &[u16],
-        bands: Bands,
-        guests: u16,
-        marks: &mut [u16],
-    ) -> Counts;
 }
 
 /// The cover under a list of limits, which is no call of the board. `kernel` says what a caller sees to.
@@ -249,6 +233,39 @@ impl Board for Proved {
             )
         }
     }
+
+    fn crowd_limits(&mut self, bands: Bands, guests: u16) -> CrowdLimits {
+        let limits = unsafe { exported::board_crowd_limits(bands_of(bands), guests) };
+        CrowdLimits { code: limits.code, alpha: limits.alpha, beta: limits.beta }
+    }
+
+    fn crowd_cover(
+        &mut self,
+        head: Head,
+        operators: &[u16],
+        rides: &[u16],
+        presence: &[u16],
+        bands: Bands,
+        guests: u16,
+        marks: &mut [u16],
+    ) -> Counts {
+        let counts = unsafe {
+            exported::board_crowd_cover(
+                head_of(head),
+                operators.as_ptr(),
+                operators.len(),
+                rides.as_ptr(),
+                rides.len(),
+                presence.as_ptr(),
+                presence.len(),
+                bands_of(bands),
+                guests,
+                marks.as_mut_ptr(),
+                marks.len(),
+            )
+        };
+        counts_of(counts)
+    }
 }
 
 impl Library for Proved {
@@ -301,39 +318,6 @@ impl Library for Proved {
             )
         };
         Answer { code: answer.code, differ: answer.differ }
-    }
-
-    fn crowd_limits(&mut self, bands: Bands, guests: u16) -> CrowdLimits {
-        let limits = unsafe { exported::board_crowd_limits(bands_of(bands), guests) };
-        CrowdLimits { code: limits.code, alpha: limits.alpha, beta: limits.beta }
-    }
-
-    fn crowd_cover(
-        &mut self,
-        head: Head,
-        operators: &[u16],
-        rides: &[u16],
-        presence: &[u16],
-        bands: Bands,
-        guests: u16,
-        marks: &mut [u16],
-    ) -> Counts {
-        let counts = unsafe {
-            exported::board_crowd_cover(
-                head_of(head),
-                operators.as_ptr(),
-                operators.len(),
-                rides.as_ptr(),
-                rides.len(),
-                presence.as_ptr(),
-                presence.len(),
-                bands_of(bands),
-                guests,
-                marks.as_mut_ptr(),
-                marks.len(),
-            )
-        };
-        counts_of(counts)
     }
 }
 
