@@ -1,30 +1,33 @@
-//! Covers under a list of limits, from pairs and over tables, beside (a).
+//! Covers under a list of limits, from pairs and over tables, and crowd covers, beside (a).
 
 use crate::kernel::{self, TABLE};
-use crate::{lists, measure, Case, Line};
+use crate::{crowds, lists, measure, Case, Line};
 use board::{Board, PRESENT};
 use std::hint::black_box;
 
-/// The lines of a cover from pairs and of one over tables, under limits that drop about half, and under those that drop
-/// everybody.
-pub const HALF: [&str; 2] = ["cover under limits, from pairs", "cover under limits, over tables"];
-pub const EVERYBODY: [&str; 2] =
-    ["cover under limits, from pairs, everybody dropped", "cover under limits, over tables, everybody dropped"];
+/// The lines of a cover from pairs, of one over tables and of a crowd cover, under limits that drop about half, and under
+/// those that drop everybody.
+pub const HALF: [&str; 3] = ["cover under limits, from pairs", "cover under limits, over tables", "crowd cover"];
+pub const EVERYBODY: [&str; 3] = [
+    "cover under limits, from pairs, everybody dropped",
+    "cover under limits, over tables, everybody dropped",
+    "crowd cover, everybody dropped",
+];
 
-/// Both lines, under alpha for each operator and beta for each ride as a list. The tables are filled before; (a) reads the
-/// pairs, and its times are the same for both.
-pub fn lines(case: &Case, board: &Board, (alpha, beta): (u16, u16), calls: [&'static str; 2]) -> [Line; 2] {
+/// The three lines, under alpha for each operator and beta for each ride, as a list and as the limits of a band. The tables
+/// are filled before; (a) reads the pairs, and its times are the same for all.
+pub fn lines(case: &Case, board: &Board, (alpha, beta): (u16, u16), calls: [&'static str; 3]) -> [Line; 3] {
     calls.iter().for_each(|call| case.tell(call));
     let (head, words) = (board.head(), board.words());
     assert!(words.presence.iter().all(|word| *word == PRESENT));
     let (operators, rides, here) = (words.operators, words.rides, vec![1; case.nodes()]);
-    let limits = case.limit_list((alpha, beta));
+    let (limits, bands) = (case.limit_list((alpha, beta)), crowds::bands((alpha, beta)));
     let (mut by_operator, mut by_ride) = (vec![0; TABLE], vec![0; TABLE]);
     // The board's pair arrays are accepted, and there are as many bytes, limits and marks as nodes.
     let degrees = unsafe { kernel::tables(head, operators, rides, &here, &mut by_operator, &mut by_ride) };
-    let (mut from_pairs, mut over_tables) = (vec![2; case.nodes()], vec![2; case.nodes()]);
+    let [mut from_pairs, mut over_tables, mut for_guests] = [(); 3].map(|_| vec![2; case.nodes()]);
     let mut listed = None;
-    let [pairs, tables, plain] = measure(
+    let [pairs, tables, crowd, plain] = measure(
         10,
         &mut [
             &mut || unsafe {
@@ -35,6 +38,10 @@ pub fn lines(case: &Case, board: &Board, (alpha, beta): (u16, u16), calls: [&'st
                 kernel::cover(head, &by_operator, &by_ride, degrees, limits, marks)
             },
             &mut || {
+                let (bands, marks) = (*black_box(&bands), black_box(&mut for_guests));
+                black_box(board.crowd_cover(bands, crowds::GUESTS, marks).unwrap());
+            },
+            &mut || {
                 let (presence, pairs) = (black_box(words.presence), black_box(&case.pairs));
                 listed = Some(lists::peel(case.operators as usize, presence, pairs, black_box(&limits)).0);
             },
@@ -42,6 +49,8 @@ pub fn lines(case: &Case, board: &Board, (alpha, beta): (u16, u16), calls: [&'st
     );
     let mut asked = vec![2; case.nodes()];
     board.query(alpha, beta, &mut asked).unwrap();
-    assert!(from_pairs == asked && over_tables == asked && listed == Some(asked));
-    [case.line(calls[0], [pairs, plain.clone(), Vec::new()]), case.line(calls[1], [tables, plain, Vec::new()])]
+    assert!(from_pairs == asked && over_tables == asked && for_guests == asked && listed == Some(asked));
+    let [first, second, third] = calls;
+    [(first, pairs), (second, tables), (third, crowd)]
+        .map(|(call, times)| case.line(call, [times, plain.clone(), Vec::new()]))
 }

@@ -2,6 +2,7 @@
 //! rebuilt after each message, and (b) the library's own algorithm, but for a peel. Prints the tables of docs/BENCHMARK.md.
 
 mod covers;
+mod crowds;
 #[path = "../../differential/src/kernel.rs"]
 mod kernel;
 mod lists;
@@ -91,6 +92,22 @@ fn median(mut numbers: Vec<f64>) -> f64 {
     numbers[numbers.len() / 2]
 }
 
+/// A program's time over another's: the median of the rounds' ratios.
+fn ratio(times: &[f64], others: &[f64]) -> f64 {
+    median(times.iter().zip(others).map(|(time, other)| time / other).collect())
+}
+
+/// Whether each ratio is within so much, and where it isn't.
+fn goal(ratios: &[(String, f64)], most: f64) -> String {
+    let over = ratios.iter().filter(|(_, ratio)| most < *ratio);
+    let over: Vec<String> = over.map(|(place, ratio)| format!("{place}: {ratio:.2}")).collect();
+    if over.is_empty() {
+        "reached".to_string()
+    } else {
+        format!("NOT reached at {}", over.join("; "))
+    }
+}
+
 /// The time of one call in microseconds, of each program in each round. The programs take turns, so that in a round all
 /// see the same machine.
 fn measure<const N: usize>(calls: usize, programs: &mut [&mut dyn FnMut(); N]) -> [Vec<f64>; N] {
@@ -147,9 +164,9 @@ impl Line {
         median(self.times[program].clone())
     }
 
-    /// The library's time over another program's: the median of the rounds' ratios.
+    /// The library's time over another program's.
     fn ratio(&self, program: usize) -> f64 {
-        median(self.times[0].iter().zip(&self.times[program]).map(|(library, other)| library / other).collect())
+        ratio(&self.times[0], &self.times[program])
     }
 }
 
@@ -283,7 +300,7 @@ fn run(case: &Case) -> Vec<Line> {
     assert!(asked.iter().all(|mark| *mark == 0));
     lines.push(case.line("query", times));
 
-    // Peels and covers under limits.
+    // Peels, covers under limits and crowd covers.
     for (call, limits) in PEELS.into_iter().zip([half(case, &board), (alpha, beta)]) {
         case.tell(call);
         lines.push(case.line(call, peels(case, &board, &tables, limits)));
@@ -345,7 +362,7 @@ fn bursts() -> [Vec<f64>; 2] {
 fn print_bursts() {
     let most = 0.01;
     let [library, lists] = bursts();
-    let ratio = median(library.iter().zip(&lists).map(|(library, other)| library / other).collect());
+    let ratio = ratio(&library, &lists);
     let reached = if ratio <= most { "reached" } else { "NOT reached" };
     println!(
         "A message list of {BURST} taken messages at 200 × 60 and 6,000 pairs, medians of {} rounds:\n",
@@ -358,7 +375,7 @@ fn print_bursts() {
 /// By call, in the order in which each first comes; lines of one call stay in their order.
 fn sort(lines: &mut [Line]) {
     let first: Vec<&str> = lines.iter().map(|line| line.call).collect();
-    let words = ["build", "query", "peel", "cover", "message"];
+    let words = ["build", "query", "peel", "cover", "crowd cover", "message"];
     lines.sort_by_key(|line| {
         let word = words.iter().position(|word| line.call.starts_with(word));
         (word, first.iter().position(|call| *call == line.call))
@@ -371,7 +388,7 @@ fn print_lines(lines: &[Line]) {
     for line in lines {
         let digits = match line.call {
             call if call.starts_with("query") => 3,
-            call if call.starts_with("cover") => 2,
+            call if call.starts_with("cover") || call.starts_with("crowd cover") => 2,
             _ => 1,
         };
         let [lists, same] = [1, 2].map(|program| match line.has(program) {
@@ -427,46 +444,63 @@ fn print_goal<'a>(lines: impl IntoIterator<Item = &'a Line>, call: &str, (agains
 /// The lines of a peel under limits that drop about half, and under those that drop everybody.
 const PEELS: [&str; 2] = ["peel", "peel, everybody dropped"];
 
-/// A peel beside the library's own algorithm in Rust, which (b)'s isn't.
+/// The table of one program beside another on each board, under limits that drop about half and under those that drop
+/// everybody. The ratios of their times, each with its place in the table.
+fn print_beside(
+    cases: &[Case],
+    what: &str,
+    [one, other]: [&str; 2],
+    digits: usize,
+    times: impl Fn(&Case, &Board, (u16, u16)) -> [Vec<f64>; 2],
+) -> Vec<(String, f64)> {
+    println!("| Limits | Board | Pairs | {one} µs | {other} µs | {one} / {other} |");
+    println!("|---|---|---:|---:|---:|---:|");
+    let mut ratios = Vec::new();
+    for case in cases {
+        case.tell(what);
+        let (n, m, pairs) = (case.operators, case.rides, case.pairs.len());
+        let mut memory = Box::new(Memory::new());
+        let board = Board::build(memory.parts(), n, m, &case.pairs, START).unwrap();
+        for (name, limits) in [("about half", half(case, &board)), ("everybody", limits(case, &board))] {
+            let times = times(case, &board, limits);
+            let ratio = ratio(&times[0], &times[1]);
+            let [one, other] = times.map(median);
+            println!("| {name} | {n} × {m} | {pairs} | {one:.digits$} | {other:.digits$} | {ratio:.2} |");
+            ratios.push((format!("{n} × {m}, {pairs} pairs, {name}"), ratio));
+        }
+    }
+    ratios
+}
+
+/// The times of a peel, and of the library's own algorithm in Rust, which (b)'s isn't.
+fn own_peels(case: &Case, board: &Board, (alpha, beta): (u16, u16)) -> [Vec<f64>; 2] {
+    let mut tables = Tables::new(case.operators, case.rides, &case.pairs);
+    assert!(tables.build(START));
+    let (mut marks, mut same) = (Vec::new(), Vec::new());
+    let (mut peeled, mut again) = (None, None);
+    let times = measure(
+        10,
+        &mut [
+            &mut || {
+                marks = vec![1; case.nodes()];
+                peeled = Some(board.peel(&mut marks, alpha, beta, u16::MAX).unwrap());
+            },
+            &mut || {
+                same = vec![1; case.nodes()];
+                again = black_box(&tables).own_peel(&mut same, alpha, beta, u16::MAX);
+            },
+        ],
+    );
+    assert!(marks == same && again == peeled.map(|peeled| (peeled.settled, peeled.steps)));
+    times
+}
+
 fn print_own_peels(cases: &[Case]) {
     let most = 1.1;
     println!("A peel beside the library's own algorithm in Rust, in place (a peel of (b) looks at everybody before each step):\n");
-    println!("| Limits | Board | Pairs | library µs | own µs | library / own |");
-    println!("|---|---|---:|---:|---:|---:|");
-    let mut over = Vec::new();
-    for case in cases {
-        case.tell("a peel beside the library's own in Rust");
-        let mut memory = Box::new(Memory::new());
-        let board = Board::build(memory.parts(), case.operators, case.rides, &case.pairs, START).unwrap();
-        let mut tables = Tables::new(case.operators, case.rides, &case.pairs);
-        assert!(tables.build(START));
-        for (name, (alpha, beta)) in [("about half", half(case, &board)), ("everybody", limits(case, &board))] {
-            let (mut marks, mut same) = (Vec::new(), Vec::new());
-            let (mut peeled, mut again) = (None, None);
-            let [library, own] = measure(
-                10,
-                &mut [
-                    &mut || {
-                        marks = vec![1; case.nodes()];
-                        peeled = Some(board.peel(&mut marks, alpha, beta, u16::MAX).unwrap());
-                    },
-                    &mut || {
-                        same = vec![1; case.nodes()];
-                        again = black_box(&tables).own_peel(&mut same, alpha, beta, u16::MAX);
-                    },
-                ],
-            );
-            assert!(marks == same && again == peeled.map(|peeled| (peeled.settled, peeled.steps)));
-            let ratio = median(library.iter().zip(&own).map(|(library, own)| library / own).collect());
-            let (n, m, pairs) = (case.operators, case.rides, case.pairs.len());
-            println!("| {name} | {n} × {m} | {pairs} | {:.1} | {:.1} | {ratio:.2} |", median(library), median(own));
-            if most < ratio {
-                over.push(format!("{n} × {m}, {pairs} pairs, {name}: {ratio:.2}"));
-            }
-        }
-    }
-    let reached = if over.is_empty() { "reached".to_string() } else { format!("NOT reached at {}", over.join("; ")) };
-    println!("\n- library at most {most} × its own algorithm in place: {reached}\n");
+    let what = "a peel beside the library's own in Rust";
+    let ratios = print_beside(cases, what, ["library", "own"], 1, own_peels);
+    println!("\n- library at most {most} × its own algorithm in place: {}\n", goal(&ratios, most));
 }
 
 const LISTS: (usize, &str) = (1, "(a)");
@@ -495,13 +529,14 @@ fn main() {
         print_goal(&lines, call, LISTS, 0.5);
         print_goal(&lines, call, TABLES, 1.1);
     }
-    for [pairs, tables] in [covers::HALF, covers::EVERYBODY] {
+    for [pairs, tables, _] in [covers::HALF, covers::EVERYBODY] {
         print_goal(&lines, pairs, LISTS, 0.35);
         print_goal(&lines, tables, LISTS, 0.1);
     }
     println!();
     print_bursts();
     previews::print(&cases);
+    crowds::print(&cases);
     println!("Growth, with half of all pairs:\n");
     let mut lines = Vec::new();
     for (operators, rides) in [(50, 15), (100, 30), (200, 60)] {

@@ -1,5 +1,6 @@
 //! What a call needs at 200 × 60: its deepest stack, and the fewest places of each part that it accepts.
 
+use crate::crowds::{self, GUESTS};
 use crate::{limits, stack, Case, START};
 use board::{Board, Head, Memory, Message, Parts, Refusal};
 
@@ -65,8 +66,8 @@ fn leaving_and_coming(stamp: u32) -> [Message; 4] {
 }
 
 /// The deepest stack of each call, over boards with few and many pairs.
-fn deepest() -> [usize; 6] {
-    let mut deepest = [0; 6];
+fn deepest() -> [usize; 8] {
+    let mut deepest = [0; 8];
     let (mut memory, mut other) = (Box::new(Memory::new()), Box::new(Memory::new()));
     let mut spare = Box::new(Memory::new());
     for pairs in [1, 3000, 6000, 12000] {
@@ -84,6 +85,11 @@ fn deepest() -> [usize; 6] {
         let limits = [(alpha, beta), (0, 0), (61, 0)];
         let query = |(alpha, beta)| stack::deepest(|| assert!(board.query(alpha, beta, &mut marks).is_ok()));
         let queried = limits.map(query).into_iter().max().unwrap();
+        let bands = limits.map(crowds::bands);
+        let look_up = |bands| stack::deepest(|| assert!(board::crowd_limits(bands, GUESTS).is_ok()));
+        let looked_up = bands.map(look_up).into_iter().max().unwrap();
+        let cover = |bands| stack::deepest(|| assert!(board.crowd_cover(bands, GUESTS, &mut marks).is_ok()));
+        let covered = bands.map(cover).into_iter().max().unwrap();
         let (sent, list) = case.messages.split_at(12);
         let (sent, list) = ([sent, &leaving_and_coming(1)].concat(), [list, &leaving_and_coming(3)].concat());
         let previewed = sent
@@ -94,7 +100,8 @@ fn deepest() -> [usize; 6] {
         let taken = sent.iter().map(|&one| stack::deepest(|| assert!(board.message(one).is_ok()))).max().unwrap();
         let listed = stack::deepest(|| assert!(board.messages(&list, &mut answers).is_ok()));
         assert!(answers == [0; 16]);
-        for (most, now) in deepest.iter_mut().zip([built, queried, peeled, taken, listed, previewed]) {
+        let calls = [built, queried, peeled, looked_up, covered, taken, listed, previewed];
+        for (most, now) in deepest.iter_mut().zip(calls) {
             *most = now.max(*most);
         }
     }
@@ -168,7 +175,7 @@ fn board_bytes(lengths: &[usize]) -> usize {
 }
 
 /// The bytes that each call must be lent, and what they are.
-fn lent() -> [(String, &'static str); 6] {
+fn lent() -> [(String, &'static str); 8] {
     let case = Case::new(200, 60, 6000, 12);
     let one = case.messages[0];
     let (mut head, mut spare_head) = (Head { operators: 200, rides: 60, pairs: 6000 }, Head::default());
@@ -184,6 +191,11 @@ fn lent() -> [(String, &'static str); 6] {
     let peeled = fewest(|[o, r, p, k]| {
         let (operators, rides, presence) = (&long.operators[..o], &long.rides[..r], &long.presence[..p]);
         board::peel(head, operators, rides, presence, &mut marks[..k], 1, 1, 0).map(|_| ())
+    });
+    let bands = crowds::bands((1, 1));
+    let covered = fewest(|[o, r, p, k]| {
+        let (operators, rides, presence) = (&long.operators[..o], &long.rides[..r], &long.presence[..p]);
+        board::crowd_cover(head, operators, rides, presence, bands, GUESTS, &mut marks[..k]).map(|_| ())
     });
     let taken = fewest(|lengths| message(&mut head, long.first(lengths), one));
     let listed = fewest(|[o, r, s, v, i, ps, pv, p, a]| {
@@ -204,6 +216,8 @@ fn lent() -> [(String, &'static str); 6] {
         (format!("{}", board_bytes(&built)), "pair arrays, stamps, revisions, index, presence parts"),
         (format!("{}", words(&queried)), "index, presence words, marks"),
         (format!("{}", words(&peeled)), "pair arrays, presence words, marks"),
+        ("0".to_string(), "nothing"),
+        (format!("{}", words(&covered)), "pair arrays, presence words, marks"),
         (
             format!("{}", head_bytes + board_bytes(&taken)),
             "head, pair arrays, stamps, revisions, index, presence parts",
@@ -224,7 +238,7 @@ const STACK_MOST: usize = 32 * 1024;
 pub fn print() {
     println!("| Call | Deepest stack, bytes | Lent, bytes | What is lent |");
     println!("|---|---:|---:|---|");
-    let names = ["build", "query", "peel", "message", "message list", "preview"];
+    let names = ["build", "query", "peel", "look-up", "crowd cover", "message", "message list", "preview"];
     let deepest = deepest();
     for ((name, deep), (bytes, what)) in names.iter().zip(deepest).zip(lent()) {
         println!("| {name} | {deep} | {bytes} | {what} |");
