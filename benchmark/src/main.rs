@@ -6,6 +6,7 @@ mod crowds;
 #[path = "../../differential/src/kernel.rs"]
 mod kernel;
 mod lists;
+mod lookups;
 mod memory;
 mod previews;
 mod stack;
@@ -431,14 +432,19 @@ fn print_halves(cases: &[Case]) {
     println!();
 }
 
+/// Prints a goal with its ratios, and whether each of them is within so much.
+fn print_ratios(ratios: &[f64], most: f64, goal: &str) {
+    assert!(!ratios.is_empty());
+    let reached = if ratios.iter().all(|ratio| *ratio <= most) { "reached" } else { "NOT reached" };
+    let ratios: Vec<String> = ratios.iter().map(|ratio| format!("{ratio:.2}")).collect();
+    println!("- {goal}: {}, {reached}", ratios.join(", "));
+}
+
 /// Whether each line of a call is within so much of another program.
 fn print_goal<'a>(lines: impl IntoIterator<Item = &'a Line>, call: &str, (against, name): (usize, &str), most: f64) {
     let of_call = lines.into_iter().filter(|line| line.call == call);
     let ratios: Vec<f64> = of_call.map(|line| line.ratio(against)).collect();
-    assert!(!ratios.is_empty());
-    let reached = if ratios.iter().all(|ratio| *ratio <= most) { "reached" } else { "NOT reached" };
-    let ratios: Vec<String> = ratios.iter().map(|ratio| format!("{ratio:.2}")).collect();
-    println!("- {call} at most {most} × {name}: {}, {reached}", ratios.join(", "));
+    print_ratios(&ratios, most, &format!("{call} at most {most} × {name}"));
 }
 
 /// The lines of a peel under limits that drop about half, and under those that drop everybody.
@@ -537,6 +543,7 @@ fn main() {
     print_bursts();
     previews::print(&cases);
     crowds::print(&cases);
+    lookups::print();
     println!("Growth, with half of all pairs:\n");
     let mut lines = Vec::new();
     for (operators, rides) in [(50, 15), (100, 30), (200, 60)] {
