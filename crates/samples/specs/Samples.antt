@@ -1,14 +1,17 @@
 -- Document 01, Samples on that board: those with a star, one table. Each row has what the definitions give, and what document 01 says.
 -- The last row, "Built at stamp 5", has no star. Further tables have limits of 0, previews, revisions and presence: document 02, 2.1 to 2.4;
--- and lists of limits.
+-- lists of limits; and limits by crowd: 2.6.
 use mathlib.Core.Path.{_≡_}
 use mathlib.Core.List.{List, [], _∷_, _++_}
 use Prim.Native.Nat.{ℕ, _-_, _*_}
-use lib.ListN.{getD, take, drop, replicate}
+use lib.ListN.{length, getD, take, drop, replicate}
 use Rattle.model.specs.declared.Message.{Message}
+use Rattle.model.specs.declared.Band.{Band}
+use Rattle.model.specs.declared.Bands.{Bands}
 use Rattle.model.specs.Graph.{Graph, limits, removals, cover-under, cover, row}
 use Rattle.model.specs.Layout.{Operators, Rides, Stamps, Revisions, Index, PresenceStamps, PresenceRevisions, Presence, Board, mark-places, lent, listed-graph}
 use Rattle.model.specs.Calls.{PeelOutcome, board-build, board-query, board-peel}
+use Rattle.model.specs.Crowd.{board-crowd-limits, board-crowd-cover}
 use Rattle.model.specs.Message.{MessageOutcome, board-message, board-preview}
 
 -- document 01's board as it is lent to a build: words of no meaning stand behind the pairs, in the stamps, the revisions and the index
@@ -328,6 +331,75 @@ limit-samples =
     (under (2 ∷ 2 ∷ 2 ∷ 2 ∷ 2 ∷ 2 ∷ 2 ∷ []), 1 ∷ 1 ∷ 0 ∷ 0 ∷ 1 ∷ 1 ∷ 0 ∷ []) ∷
     (under (2 ∷ 2 ∷ 2 ∷ 0 ∷ 2 ∷ 2 ∷ 2 ∷ []), 1 ∷ 1 ∷ 1 ∷ 1 ∷ 1 ∷ 1 ∷ 1 ∷ []) ∷
     (under (65535 ∷ 0 ∷ 0 ∷ 0 ∷ 0 ∷ 0 ∷ 0 ∷ []), 0 ∷ 1 ∷ 1 ∷ 1 ∷ 1 ∷ 1 ∷ 1 ∷ []) ∷
+    []
+
+-- a band, and a crowd table of these bands, lent with a band of no meaning in each place behind them
+abbrev from-to : ℕ → ℕ → ℕ → ℕ → Band
+from-to first last alpha beta = record { first = first; last = last; alpha = alpha; beta = beta }
+
+abbrev of-bands : List Band → Bands
+of-bands bands =
+    record { count = length bands; bands = bands ++ replicate (8 - length bands) (from-to 9 9 9 9) }
+
+-- what a look-up gives: its number and the limits
+abbrev looked-up : Bands → ℕ → List ℕ
+looked-up t guests =
+    let o = board-crowd-limits t guests in o .code ∷ o .alpha ∷ o .beta ∷ []
+
+-- what a cover for a guest count gives on document 01's board with these presence words, from so many marks of 7: its number, its counts, and the marks
+abbrev crowd-asked : List ℕ → Bands → ℕ → ℕ → List ℕ
+crowd-asked presence t guests places =
+    let o = board-crowd-cover (table .head) (table .part Operators) (table .part Rides) presence t guests (replicate places 7) in
+    o .answer .code ∷ o .answer .operators ∷ o .answer .rides ∷ o .marks
+
+-- three bands, the lowest in the middle, the one of guest count 0 alone
+abbrev three : Bands
+three = of-bands (from-to 101 20000 2 2 ∷ from-to 0 0 0 0 ∷ from-to 1 100 1 3 ∷ [])
+
+-- eight bands, seven of one guest count each
+abbrev eight : Bands
+eight =
+    of-bands
+    (from-to 20000 20000 8 8 ∷ from-to 6 19999 7 7 ∷ from-to 5 5 6 6 ∷ from-to 4 4 5 5 ∷ from-to 3 3 4 4 ∷ from-to 2 2 3 3 ∷
+    from-to 1 1 2 2 ∷ from-to 0 0 1 0 ∷ [])
+
+-- two bands that touch at 100, and three behind which 20,000 is missing: an overlap, and with the last one a gap too
+abbrev touching : Bands
+touching = of-bands (from-to 0 100 1 1 ∷ from-to 100 20000 1 1 ∷ [])
+
+abbrev overlap-and-gap : Bands
+overlap-and-gap = of-bands (from-to 50 100 1 1 ∷ from-to 0 60 1 1 ∷ from-to 101 19999 1 1 ∷ [])
+
+-- limits by crowd, by hand. Look-ups at the first and the last guest count of bands, in one band and in eight.
+-- 16: no bands, nine, a first count above its last, a last count of 20,001, and 20,001 guests; also where 17 and 18 apply.
+-- 17: bands that touch at one count; also where there is a gap. 18: a gap at 0, at 20,000, and of one count between.
+-- On document 01's board: (0,0) everyone; (1,3) operators 0, 1, 2 and ride 1; (2,2) operators 0, 1 and rides 0, 1. Without operator 2 (0,0) has all
+-- others. The eighth mark stays, and so do all where the table is refused. Six marks are 3, whatever the table is.
+unfoldable pub crowd-samples : List (List ℕ × List ℕ)
+crowd-samples =
+    (looked-up three 1, 0 ∷ 1 ∷ 3 ∷ []) ∷
+    (looked-up three 100, 0 ∷ 1 ∷ 3 ∷ []) ∷
+    (looked-up three 101, 0 ∷ 2 ∷ 2 ∷ []) ∷
+    (looked-up (of-bands (from-to 0 20000 5 65535 ∷ [])) 20000, 0 ∷ 5 ∷ 65535 ∷ []) ∷
+    (looked-up eight 19999, 0 ∷ 7 ∷ 7 ∷ []) ∷
+    (looked-up eight 20000, 0 ∷ 8 ∷ 8 ∷ []) ∷
+    (looked-up (of-bands []) 0, 16 ∷ 0 ∷ 0 ∷ []) ∷
+    (looked-up (record { count = 9; bands = eight .bands }) 0, 16 ∷ 0 ∷ 0 ∷ []) ∷
+    (looked-up (of-bands (from-to 0 20000 1 1 ∷ from-to 8 7 1 1 ∷ [])) 0, 16 ∷ 0 ∷ 0 ∷ []) ∷
+    (looked-up (of-bands (from-to 0 20001 1 1 ∷ [])) 0, 16 ∷ 0 ∷ 0 ∷ []) ∷
+    (looked-up three 20001, 16 ∷ 0 ∷ 0 ∷ []) ∷
+    (looked-up overlap-and-gap 20001, 16 ∷ 0 ∷ 0 ∷ []) ∷
+    (looked-up touching 0, 17 ∷ 0 ∷ 0 ∷ []) ∷
+    (looked-up overlap-and-gap 0, 17 ∷ 0 ∷ 0 ∷ []) ∷
+    (looked-up (of-bands (from-to 1 20000 1 1 ∷ [])) 1, 18 ∷ 0 ∷ 0 ∷ []) ∷
+    (looked-up (of-bands (from-to 0 19999 1 1 ∷ [])) 1, 18 ∷ 0 ∷ 0 ∷ []) ∷
+    (looked-up (of-bands (from-to 0 99 1 1 ∷ from-to 101 20000 1 1 ∷ [])) 1, 18 ∷ 0 ∷ 0 ∷ []) ∷
+    (crowd-asked (replicate 7 1) three 0 8, 0 ∷ 4 ∷ 3 ∷ 1 ∷ 1 ∷ 1 ∷ 1 ∷ 1 ∷ 1 ∷ 1 ∷ 7 ∷ []) ∷
+    (crowd-asked (replicate 7 1) three 50 8, 0 ∷ 3 ∷ 1 ∷ 1 ∷ 1 ∷ 1 ∷ 0 ∷ 0 ∷ 1 ∷ 0 ∷ 7 ∷ []) ∷
+    (crowd-asked (replicate 7 1) three 20000 7, 0 ∷ 2 ∷ 2 ∷ 1 ∷ 1 ∷ 0 ∷ 0 ∷ 1 ∷ 1 ∷ 0 ∷ []) ∷
+    (crowd-asked (1 ∷ 1 ∷ 0 ∷ 1 ∷ 1 ∷ 1 ∷ 1 ∷ []) three 0 7, 0 ∷ 3 ∷ 3 ∷ 1 ∷ 1 ∷ 0 ∷ 1 ∷ 1 ∷ 1 ∷ 1 ∷ []) ∷
+    (crowd-asked (replicate 7 1) touching 0 8, 17 ∷ 0 ∷ 0 ∷ replicate 8 7) ∷
+    (crowd-asked (replicate 7 1) touching 0 6, 3 ∷ 0 ∷ 0 ∷ replicate 6 7) ∷
     []
 
 -- in each row of a table the two lists are equal
