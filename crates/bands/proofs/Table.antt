@@ -27,21 +27,33 @@ module _ (t : Bands) (words : List ℕ) (w : WordsUpTo 8 t words) (few : t .coun
   malformed-refused guests m =
       let k = some-witness (malformed-at words) (t .count) m in
       let i : ℕ = k .0 in
+      let first : ℕ = first-of words i in
+      let last : ℕ = last-of words i in
+      let ef = w .first i (omega (arith, k .1)) in
+      let el = w .last i (omega (arith, k .1)) in
       by-test (refused-16 t guests) (λ r. r)
       (λ n.
       let f = passes-formed t guests n .0 in
-      absurd (or-cases (ltb (last-of words i) (first-of words i)) (ltb most-guests (last-of words i)) (k .2)
-      (λ s. let z : ⊥ = omega (arith, ltb→lt (last-of words i) (first-of words i) s, w .first i (omega (arith, k .1)), w .last i (omega (arith, k .1)), f .ordered i (k .1)) in z)
-      (λ s. let z : ⊥ = omega (arith, ltb→lt most-guests (last-of words i) s, w .last i (omega (arith, k .1)), f .in-range i (k .1)) in z)))
+      absurd (or-cases (ltb last first || ltb most-guests first) (ltb most-guests last) (k .2)
+      (λ s. or-cases (ltb last first) (ltb most-guests first) s
+      (λ q. let z : ⊥ = omega (arith, ltb→lt last first q, ef, el, f .ordered i (k .1)) in z)
+      (λ q. let z : ⊥ = omega (arith, ltb→lt most-guests first q, ef, f .ordered i (k .1), f .in-range i (k .1)) in z))
+      (λ q. let z : ⊥ = omega (arith, ltb→lt most-guests last q, el, f .in-range i (k .1)) in z)))
 
   pub formed : 1 ≤ t .count → (T (some (t .count) (malformed-at words)) → ⊥) → Formed t
   formed least n =
       record {
         least = least;
         most = few;
-        ordered = λ i h. omega (arith, w .first i (omega arith), w .last i (omega arith), enough (last-of words i) (first-of words i) (λ s. n (some-holds (malformed-at words) (t .count) i h (or-left (ltb (last-of words i) (first-of words i)) (ltb most-guests (last-of words i)) s))));
-        in-range = λ i h. omega (arith, w .last i (omega arith), enough most-guests (last-of words i) (λ s. n (some-holds (malformed-at words) (t .count) i h (or-right (ltb (last-of words i) (first-of words i)) (ltb most-guests (last-of words i)) s))));
+        ordered = λ i h. omega (arith, w .first i (omega arith), w .last i (omega arith), enough (last-of words i) (first-of words i) (λ s. n (some-holds (malformed-at words) (t .count) i h (or-left (reversed i || ltb most-guests (first-of words i)) (above i) (or-left (reversed i) (ltb most-guests (first-of words i)) s)))));
+        in-range = λ i h. omega (arith, w .last i (omega arith), enough most-guests (last-of words i) (λ s. n (some-holds (malformed-at words) (t .count) i h (or-right (reversed i || ltb most-guests (first-of words i)) (above i) s))));
       }
+    where
+      reversed : ℕ → Bool
+      reversed i = ltb (last-of words i) (first-of words i)
+
+      above : ℕ → Bool
+      above i = ltb most-guests (last-of words i)
 
   module _ (f : Formed t) where
     pub words-ordered : (i : ℕ) → i < t .count → first-of words i ≤ last-of words i

@@ -29,9 +29,10 @@ pub record WordsUpTo (k : ℕ) (t : Bands) (words : List ℕ) : Type 0 where
   pub alpha : (i : ℕ) → i < k → alpha-of words i ≡ band t i .alpha
   pub beta : (i : ℕ) → i < k → beta-of words i ≡ band t i .beta
 
--- the first count of band i exceeds its last, or its last is above 20,000
+-- the first count of band i exceeds its last, or one of them is above 20,000
 abbrev pub malformed-at : List ℕ → ℕ → Bool
-malformed-at words i = ltb (last-of words i) (first-of words i) || ltb most-guests (last-of words i)
+malformed-at words i =
+    ltb (last-of words i) (first-of words i) || ltb most-guests (first-of words i) || ltb most-guests (last-of words i)
 
 -- bands i and j share a guest count
 abbrev pub share : List ℕ → ℕ → ℕ → Bool

@@ -27,11 +27,17 @@ pub fn words(bands: Bands) -> [u16; 32]
     all
 }
 
-// Whether the first count of a band exceeds its last, or its last is above 20,000.
+// Whether the first count of a band exceeds its last, or one of them is above 20,000.
 fn is_malformed(first: u16, last: u16) -> bool
-    ensures { λ r. ⌜ r ≡ (ltb last first || ltb most-guests last) ⌝ }
+    ensures { λ r. ⌜ r ≡ (ltb last first || ltb most-guests first || ltb most-guests last) ⌝ }
 {
-    last < first || 20000 < last
+    if last < first {
+        return true;
+    }
+    if 20000 < first {
+        return true;
+    }
+    20000 < last
 }
 
 // Whether one of n bands is malformed.

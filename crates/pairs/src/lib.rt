@@ -24,10 +24,10 @@ fn misplaced(head: Head, u0: u16, v0: u16, u: u16, v: u16) -> u16
     if u0 < u {
         return 0;
     }
-    if u0 != u {
-        return 1;
+    if u0 == u && v0 < v {
+        return 0;
     }
-    if v <= v0 { 1 } else { 0 }
+    1
 }
 
 // How many pairs are misplaced, where the first is not.
