@@ -52,7 +52,7 @@
  * For firmware (docs/INTERFACE.md says more):
  * - x86-64, System V calling convention, SSE2 and no more; no use of the red zone below the stack pointer.
  * - Deepest stack in bytes, measured at 200 x 60 (docs/BENCHMARK.md): build 26,112, query 144, peel 26,320, look-up
- *   @STACK_CROWD_LIMITS@, crowd cover @STACK_CROWD_COVER@, message 26,160, message list 26,256, preview 26,368.
+ *   128, crowd cover 26,160, message 26,160, message list 26,256, preview 26,320.
  * - No writable data; of the program it needs memcpy, memmove and memset at most.
  * - A reset in the middle of a call leaves a mixture of old and new words in what the call writes: build again from a
  *   pair table, and send the messages again. A preview writes the spare memory alone.

@@ -1,4 +1,4 @@
--- The outcomes of the six calls, put together from what a call answers and what is lent at exit.
+-- The outcomes of the calls, put together from what a call answers and what is lent at exit.
 use mathlib.Core.List.{List}
 use Prim.Native.Nat.{ℕ}
 use Rattle.model.specs.declared.Counts.{Counts}
@@ -12,7 +12,7 @@ use Rattle.model.specs.Message.{MessageOutcome, ListOutcome}
 abbrev pub build-left : ℕ → Board → BuildOutcome
 build-left r b = record { code = r; board = b }
 
--- Query: its answer and the marks at exit
+-- Query, and cover for a guest count: its answer and the marks at exit
 abbrev pub queried : Counts → List ℕ → QueryOutcome
 queried r marks = record { answer = r; marks = marks }
 

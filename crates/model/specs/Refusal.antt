@@ -1,5 +1,5 @@
 -- Document 01, What the controller is told: one test for each of the numbers 1 to 10 and 12, and the numbers that each call checks.
--- Document 02, 2.1: 11 is never given; 2.3: 14; 2.4: 15, and 7, 8 and 10 of six kinds.
+-- Document 02, 2.1: 11 is never given; 2.3: 14; 2.4: 15, and 7, 8 and 10 of six kinds. 16 to 18 stand in `Crowd.antt`.
 use mathlib.Core.Bool.{Bool, true, false, _&&_, _||_, not}
 use mathlib.Core.List.{List, [], _∷_, _++_}
 use Prim.Native.Nat.{ℕ, zero, suc, _+_}
