@@ -1,7 +1,7 @@
 //! Document 02, 2.6, limits by crowd: a table of bands, the look-up, and the cover for a guest count. Every guest count is
 //! looked at.
 
-use crate::{core, disordered, first_of, listed, Counting, Counts, Head};
+use crate::{core, first_of, lent_number, listed, Counting, Counts, Head};
 
 /// The largest number of guests.
 pub const GUESTS_MOST: u16 = 20_000;
@@ -90,14 +90,7 @@ pub fn crowd_cover(
     guests: u16,
     marks: &mut [u16],
 ) -> Counts {
-    let (places, nodes) = (head.places(), head.nodes());
-    let code = first_of(&[
-        (1, &|| head.operators > 200),
-        (2, &|| head.rides > 60),
-        (3, &|| operators.len() < places || rides.len() < places || presence.len() < nodes || marks.len() < nodes),
-        (4, &|| head.pairs as usize > places),
-        (5, &|| disordered(head, operators, rides)),
-    ]);
+    let code = lent_number(head, operators, rides, presence, marks);
     let limits = crowd_limits(bands, guests);
     let code = if code != 0 { code } else { limits.code };
     if code != 0 {
@@ -105,7 +98,7 @@ pub fn crowd_cover(
     }
     let counting = Counting::new(head, &listed(head, operators, rides), presence);
     let set = core(&counting, limits.alpha as usize, limits.beta as usize);
-    let (operators, rides) = marks[..nodes].split_at_mut(head.operators as usize);
+    let (operators, rides) = marks[..head.nodes()].split_at_mut(head.operators as usize);
     operators.iter_mut().enumerate().for_each(|(operator, mark)| *mark = set.0.has(operator) as u16);
     rides.iter_mut().enumerate().for_each(|(ride, mark)| *mark = set.1.has(ride) as u16);
     Counts { code: 0, operators: operators.iter().sum(), rides: rides.iter().sum() }

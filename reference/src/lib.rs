@@ -249,6 +249,18 @@ fn disordered(head: Head, operators: &[u16], rides: &[u16]) -> bool {
     outside || !ascending
 }
 
+/// 1 to 5, of what a peel or a crowd cover is lent.
+fn lent_number(head: Head, operators: &[u16], rides: &[u16], presence: &[u16], marks: &[u16]) -> u16 {
+    let (places, nodes) = (head.places(), head.nodes());
+    first_of(&[
+        (1, &|| head.operators > 200),
+        (2, &|| head.rides > 60),
+        (3, &|| operators.len() < places || rides.len() < places || presence.len() < nodes || marks.len() < nodes),
+        (4, &|| head.pairs as usize > places),
+        (5, &|| disordered(head, operators, rides)),
+    ])
+}
+
 /// The pairs of accepted pair arrays.
 fn listed(head: Head, operators: &[u16], rides: &[u16]) -> Pairs {
     let pairs = head.pairs as usize;
@@ -456,15 +468,10 @@ pub fn peel(
     beta: u16,
     steps: u16,
 ) -> Peeled {
-    let (places, nodes) = (head.places(), head.nodes());
-    let code = first_of(&[
-        (1, &|| head.operators > 200),
-        (2, &|| head.rides > 60),
-        (3, &|| operators.len() < places || rides.len() < places || presence.len() < nodes || marks.len() < nodes),
-        (4, &|| head.pairs as usize > places),
-        (5, &|| disordered(head, operators, rides)),
-        (12, &|| marks[..nodes].iter().any(|mark| *mark > 1)),
-    ]);
+    let code = match lent_number(head, operators, rides, presence, marks) {
+        0 => first_of(&[(12, &|| marks[..head.nodes()].iter().any(|mark| *mark > 1))]),
+        code => code,
+    };
     if code != 0 {
         return Peeled { code, settled: 0, steps: 0 };
     }
