@@ -1,5 +1,5 @@
--- Demand 2, all of it: index, queries, peel and the cover for a guest count give the (α, β)-core of Definition 2.1, of the pairs that count and those present, on any index of
--- clearances, after a build, and after any list of calls.
+-- Demand 2, all of it: index, queries, peel and the cover for a guest count give the (α, β)-core of Definition 2.1, of the pairs that count and
+-- those present, on any index of clearances, after a build, and after any list of calls.
 use mathlib.Core.Path.{_≡_}
 use mathlib.Core.List.{List, _++_}
 use Prim.Native.Nat.{ℕ, _≤_}

@@ -15,7 +15,7 @@ use Rattle.model.specs.Layout.{Part, Index, Presence, Board, mark-places
 use Rattle.model.specs.Contents.{Slot, Pair, Operator, Ride, Entry, gives, later, slot, entry, contents}
 use Rattle.model.specs.Refusal.{refused-1, refused-2, refused-7, refused-8, refused-9, refused-14, outside, unused, first-number, board-short, valid-cases, peel-cases, build-refusal, list-refusal, peel-refusal}
 use Rattle.model.specs.Calls.{QueryOutcome, PeelOutcome, query-marks, board-build, board-query, board-peel}
-use Rattle.model.specs.Crowd.{most-guests, band, crowd-refusal, board-crowd-limits, board-crowd-cover}
+use Rattle.model.specs.Crowd.{most-guests, band, board-crowd-limits, board-crowd-cover}
 use Rattle.model.specs.Message.{board-message, board-preview, board-messages}
 
 -- how many nodes are marked
@@ -298,7 +298,7 @@ pub record Gap (t : Bands) : Type 0 where
   pub in-range : guests ≤ most-guests
   pub none : (i : ℕ) → FallsIn t guests i → ⊥
 
--- one to eight bands, none whose first count exceeds its last, and no guest count above 20,000
+-- one to eight bands, none whose first count exceeds its last, and none with a guest count above 20,000: where its last isn't, its first isn't
 pub record Formed (t : Bands) : Type 0 where
   pub least : 1 ≤ t .count
   pub most : t .count ≤ 8
