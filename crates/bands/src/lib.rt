@@ -10,7 +10,7 @@ ghost use Rattle.bands.specs.Bands.{first-of, last-of, alpha-of, beta-of
 use model::Bands;
 use model::CrowdLimits;
 
-// The words of a table.
+// The words of a table, to be lent: a function that indexes a table it has by value copies it first.
 pub fn words(bands: Bands) -> [u16; 32]
     ensures { λ r. ⌜ WordsUpTo 8 bands r ⌝ }
 {
@@ -124,7 +124,7 @@ fn falls_in(first: u16, last: u16, guests: u16) -> bool
 }
 
 // The first of n bands that a guest count falls in; n where there is none.
-pub fn place_of(words: &[u16; 32], n: usize, guests: u16) -> usize
+fn place_of(words: &[u16; 32], n: usize, guests: u16) -> usize
     requires { ⌜ n ≤ 8 ⌝ }
     ensures { λ r. ⌜ r ≡ lowest n (falls-at (now (words .entry)) guests) ⌝ }
 {
