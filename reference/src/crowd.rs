@@ -1,7 +1,7 @@
 //! Document 02, 2.6, limits by crowd: a table of bands, the look-up, and the cover for a guest count. Every guest count is
 //! looked at.
 
-use crate::{core, first_of, lent_number, listed, Counting, Counts, Head};
+use crate::{core, first_of, lent_number, listed, show, Counting, Counts, Head};
 
 /// The largest number of guests.
 pub const GUESTS_MOST: u16 = 20_000;
@@ -90,16 +90,12 @@ pub fn crowd_cover(
     guests: u16,
     marks: &mut [u16],
 ) -> Counts {
-    let code = lent_number(head, operators, rides, presence, marks);
+    let code = lent_number(head, operators, rides, presence, None, marks);
     let limits = crowd_limits(bands, guests);
     let code = if code != 0 { code } else { limits.code };
     if code != 0 {
         return Counts { code, operators: 0, rides: 0 };
     }
     let counting = Counting::new(head, &listed(head, operators, rides), presence);
-    let set = core(&counting, limits.alpha as usize, limits.beta as usize);
-    let (operators, rides) = marks[..head.nodes()].split_at_mut(head.operators as usize);
-    operators.iter_mut().enumerate().for_each(|(operator, mark)| *mark = set.0.has(operator) as u16);
-    rides.iter_mut().enumerate().for_each(|(ride, mark)| *mark = set.1.has(ride) as u16);
-    Counts { code: 0, operators: operators.iter().sum(), rides: rides.iter().sum() }
+    show(head, core(&counting, limits.alpha as usize, limits.beta as usize), marks)
 }

@@ -355,7 +355,7 @@ impl Board for Reference {
         beta: u16,
         steps: u16,
     ) -> Peeled {
-        crate::peel(head, operators, rides, presence, marks, alpha, beta, steps)
+        crate::peel(head, operators, rides, presence, &[0; 60], marks, alpha, beta, steps)
     }
 
     fn message(&mut self, head: &mut Head, parts: &mut Slices, message: Message) -> Answer {

@@ -249,13 +249,26 @@ fn disordered(head: Head, operators: &[u16], rides: &[u16]) -> bool {
     outside || !ascending
 }
 
-/// 1 to 5, of what a peel or a crowd cover is lent.
-fn lent_number(head: Head, operators: &[u16], rides: &[u16], presence: &[u16], marks: &[u16]) -> u16 {
+/// 1 to 5, of what a peel or a cover is lent. Document 02, 2.7: a list of minimums shorter than the rides is 3; a crowd
+/// cover is lent none.
+fn lent_number(
+    head: Head,
+    operators: &[u16],
+    rides: &[u16],
+    presence: &[u16],
+    minimums: Option<&[u16]>,
+    marks: &[u16],
+) -> u16 {
     let (places, nodes) = (head.places(), head.nodes());
+    let too_short = operators.len() < places
+        || rides.len() < places
+        || presence.len() < nodes
+        || minimums.is_some_and(|minimums| minimums.len() < head.rides as usize)
+        || marks.len() < nodes;
     first_of(&[
         (1, &|| head.operators > 200),
         (2, &|| head.rides > 60),
-        (3, &|| operators.len() < places || rides.len() < places || presence.len() < nodes || marks.len() < nodes),
+        (3, &|| too_short),
         (4, &|| head.pairs as usize > places),
         (5, &|| disordered(head, operators, rides)),
     ])
@@ -335,16 +348,28 @@ impl Counting {
     }
 }
 
+/// Document 02, 2.7: the limit of a ride: its own minimum, or beta where that is 0.
+fn ride_limit(minimums: &[u16], beta: u16, ride: usize) -> u16 {
+    match minimums[ride] {
+        0 => beta,
+        minimum => minimum,
+    }
+}
+
 /// Definition 2.1, for limits from 0: the largest set where each operator is on and has at least alpha rides of the
-/// set, and each ride is in and has at least beta operators of it. Whoever falls short goes, again and again, until
-/// nobody does.
+/// set, and each ride is in and has at least beta operators of it.
 fn core(counting: &Counting, alpha: usize, beta: usize) -> (Set, Set) {
+    core_by_ride(counting, alpha, |_| beta)
+}
+
+/// The same with a limit for each ride. Whoever falls short goes, again and again, until nobody does.
+fn core_by_ride(counting: &Counting, alpha: usize, beta: impl Fn(usize) -> usize) -> (Set, Set) {
     let mut operators = Set::of(0..counting.rides_of.len());
     let mut rides = Set::of(0..counting.operators_of.len());
     loop {
         let left = (
             Set::of(operators.numbers().filter(|&o| !counting.operator_falls_short(o, rides, alpha))),
-            Set::of(rides.numbers().filter(|&r| !counting.ride_falls_short(r, operators, beta))),
+            Set::of(rides.numbers().filter(|&r| !counting.ride_falls_short(r, operators, beta(r)))),
         );
         if left == (operators, rides) {
             return left;
@@ -457,18 +482,49 @@ fn indexed(head: Head, index: &[u16], alpha: u16, node: usize) -> u16 {
     }
 }
 
+/// Writes the marks of a set, and counts them. Marks past operators and rides stay.
+fn show(head: Head, set: (Set, Set), marks: &mut [u16]) -> Counts {
+    let (operators, rides) = marks[..head.nodes()].split_at_mut(head.operators as usize);
+    operators.iter_mut().enumerate().for_each(|(operator, mark)| *mark = set.0.has(operator) as u16);
+    rides.iter_mut().enumerate().for_each(|(ride, mark)| *mark = set.1.has(ride) as u16);
+    Counts { code: 0, operators: operators.iter().sum(), rides: rides.iter().sum() }
+}
+
+/// Document 02, 2.7: the cover with minimums, by Definition 2.1 with a limit for each ride. The marks that come in aren't
+/// read.
+#[allow(clippy::too_many_arguments)]
+pub fn own_cover(
+    head: Head,
+    operators: &[u16],
+    rides: &[u16],
+    presence: &[u16],
+    minimums: &[u16],
+    alpha: u16,
+    beta: u16,
+    marks: &mut [u16],
+) -> Counts {
+    let code = lent_number(head, operators, rides, presence, Some(minimums), marks);
+    if code != 0 {
+        return Counts { code, operators: 0, rides: 0 };
+    }
+    let counting = Counting::new(head, &listed(head, operators, rides), presence);
+    let set = core_by_ride(&counting, alpha as usize, |ride| ride_limit(minimums, beta, ride) as usize);
+    show(head, set, marks)
+}
+
 #[allow(clippy::too_many_arguments)]
 pub fn peel(
     head: Head,
     operators: &[u16],
     rides: &[u16],
     presence: &[u16],
+    minimums: &[u16],
     marks: &mut [u16],
     alpha: u16,
     beta: u16,
     steps: u16,
 ) -> Peeled {
-    let code = match lent_number(head, operators, rides, presence, marks) {
+    let code = match lent_number(head, operators, rides, presence, Some(minimums), marks) {
         0 => first_of(&[(12, &|| marks[..head.nodes()].iter().any(|mark| *mark > 1))]),
         code => code,
     };
@@ -476,7 +532,8 @@ pub fn peel(
         return Peeled { code, settled: 0, steps: 0 };
     }
     let counting = Counting::new(head, &listed(head, operators, rides), presence);
-    let limits = [vec![alpha; head.operators as usize], vec![beta; head.rides as usize]].concat();
+    let of_rides = (0..head.rides as usize).map(|ride| ride_limit(minimums, beta, ride));
+    let limits: Vec<u16> = std::iter::repeat_n(alpha, head.operators as usize).chain(of_rides).collect();
     drop_short(head, &counting, &limits, marks, steps)
 }
 

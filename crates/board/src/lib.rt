@@ -1,7 +1,8 @@
-// The board's calls: build, query and peel. Each answers document 01's number, and leaves the lent parts as the definitions say.
+// The board's calls: build, query, peel and the cover with minimums. Each answers document 01's number, and leaves the lent parts as the
+// definitions say.
 ghost use mathlib.Core.Path.{_≡_};
 ghost use Rattle.model.specs.Layout.{lent};
-ghost use Rattle.model.specs.Calls.{board-build, board-query, board-peel};
+ghost use Rattle.model.specs.Calls.{board-build, board-query, board-peel, board-own-cover};
 ghost use Rattle.model.specs.Outcome.{queried, peel-left, build-left};
 
 pub mod crowd; // crowd.rt: look-up and cover for a guest count
@@ -62,13 +63,15 @@ pub extern "C" fn board_query(
     queries::query(head, index, presence, alpha, beta, marks)
 }
 
-// Clears, one a step, the mark of the lowest-numbered operator that falls short, else ride, at most the allowed steps.
+// Clears, one a step, the mark of the lowest-numbered operator that falls short, else ride, at most the allowed steps. A ride's limit is its own
+// minimum, or beta where that is 0.
 #[no_mangle]
 pub extern "C" fn board_peel(
     head: Head,
     operators: &[u16],
     rides: &[u16],
     presence: &[u16],
+    minimums: &[u16],
     marks: &mut [u16],
     alpha: u16,
     beta: u16,
@@ -76,8 +79,49 @@ pub extern "C" fn board_peel(
 ) -> Peeled
     ensures { λ r. ⌜
         peel-left r (now (marks .exit))
-        ≡ board-peel head (now (operators .entry)) (now (rides .entry)) (now (presence .entry)) (now (marks .entry)) alpha beta steps
+        ≡ board-peel head (now (operators .entry)) (now (rides .entry)) (now (presence .entry)) (now (minimums .entry)) (now (marks .entry)) alpha beta
+        steps
         ⌝ }
 {
-    peels::peel(head, operators, rides, presence, marks, alpha, beta, steps)
+    peels::peel(
+        head,
+        operators,
+        rides,
+        presence,
+        minimums,
+        marks,
+        alpha,
+        beta,
+        steps,
+    )
+}
+
+// Marks the cover with minimums, found from all ones, and answers the counts of operators and rides marked.
+#[no_mangle]
+pub extern "C" fn board_own_cover(
+    head: Head,
+    operators: &[u16],
+    rides: &[u16],
+    presence: &[u16],
+    minimums: &[u16],
+    alpha: u16,
+    beta: u16,
+    marks: &mut [u16],
+) -> Counts
+    ensures { λ r. ⌜
+        queried r (now (marks .exit))
+        ≡ board-own-cover head (now (operators .entry)) (now (rides .entry)) (now (presence .entry)) (now (minimums .entry)) alpha beta
+        (now (marks .entry))
+        ⌝ }
+{
+    own_covers::own_cover(
+        head,
+        operators,
+        rides,
+        presence,
+        minimums,
+        alpha,
+        beta,
+        marks,
+    )
 }

@@ -5,19 +5,9 @@ ghost use Rattle.model.specs.Outcome.{queried};
 use model::Bands;
 use model::Counts;
 use model::Head;
+use present_covers::refused;
 
-// What a refused cover answers.
-fn refused(number: u16) -> Counts
-    ensures { λ r. ⌜ r ≡ record { code = number; operators = 0; rides = 0 } ⌝ }
-{
-    Counts {
-        code: number,
-        operators: 0,
-        rides: 0,
-    }
-}
-
-// Marks the cover for a guest count, and answers the counts of operators and rides marked.
+// Marks the cover for a guest count, without minimums, and answers the counts of operators and rides marked.
 pub fn crowd_cover(
     head: Head,
     operators: &[u16],
@@ -32,7 +22,8 @@ pub fn crowd_cover(
         ≡ board-crowd-cover head (now (operators .entry)) (now (rides .entry)) (now (presence .entry)) bands guests (now (marks .entry))
         ⌝ }
 {
-    let number = peel_refusals::lent_number(head, operators, rides, presence, marks);
+    let none = [0u16; 60];
+    let number = peel_refusals::lent_number(head, operators, rides, presence, &none, marks);
     if number != 0 {
         return refused(number);
     }
@@ -46,6 +37,7 @@ pub fn crowd_cover(
         operators,
         rides,
         presence,
+        &none,
         found.alpha,
         found.beta,
         marks,

@@ -1,11 +1,11 @@
 // The limits of a peel or a cover: one word for each node, as marks lie, operators first and then rides; and the limits of those marked in bytes.
 ghost use mathlib.Core.Path.{_≡_};
 ghost use mathlib.Core.Bool.{true, false};
-ghost use Prim.Native.Nat.{ℕ, _≤_, _<_, min};
+ghost use Prim.Native.Nat.{ℕ, _+_, _≤_, _<_, min};
 ghost use lib.Dec.{eqb, ltb};
 ghost use lib.ListN.{length, getD};
 ghost use Rattle.model.specs.Count.{bit};
-ghost use Rattle.model.specs.Graph.{present};
+ghost use Rattle.model.specs.Graph.{present, ride-limit};
 ghost use Rattle.model.specs.Layout.{mark-places};
 ghost use Rattle.model.specs.Calls.{peel-limits};
 ghost use Rattle.limits.specs.Limits.{limit-of, byte-limit};
@@ -18,35 +18,82 @@ fn node_limit(word: u16, limit: u16, high: u16) -> u16
     if word == 1 { limit } else { high }
 }
 
-// The limits of the nodes from one up to another, by their words.
-fn fill_side(presence: &[u16], limit: u16, high: u16, limits: &mut [u16], from: usize, to: usize)
-    requires { ⌜ (from ≤ to) × (to ≤ length (now presence)) × (to ≤ length (now limits)) ⌝ }
+// The limit of a ride: its own minimum, or beta where that is 0.
+fn own_limit(minimum: u16, beta: u16) -> u16
+    ensures { λ r. ⌜ r ≡ elim (eqb minimum 0) [ true ↦ beta | false ↦ minimum ] ⌝ }
+{
+    if minimum == 0 { beta } else { minimum }
+}
+
+// The limits of so many operators, by their words.
+fn fill_operators(presence: &[u16], alpha: u16, high: u16, limits: &mut [u16], operators: usize)
+    requires { ⌜ (operators ≤ length (now presence)) × (operators ≤ length (now limits)) ⌝ }
     ensures { λ _. ⌜
-        ((x : ℕ) → x < from → limit-of (now (limits .exit)) x ≡ limit-of (now (limits .entry)) x) ×
-        ((x : ℕ) → from ≤ x → x < to → limit-of (now (limits .exit)) x ≡ elim (present (now (presence .entry)) x) [ true ↦ limit | false ↦ high ])
+        ((x : ℕ) → x < operators → limit-of (now (limits .exit)) x ≡ elim (present (now (presence .entry)) x) [ true ↦ alpha | false ↦ high ])
         ⌝ }
 {
-    let mut x = from;
-    while x < to {
-        limits[x] = node_limit(presence[x], limit, high);
-        x += 1;
+    let mut u = 0;
+    while u < operators {
+        limits[u] = node_limit(presence[u], alpha, high);
+        u += 1;
     }
 }
 
-// The limits of a peel (alpha, beta): whoever is off or out falls short. The high limit is above the number of nodes, which no degree exceeds.
-pub fn fill(head: Head, presence: &[u16], alpha: u16, beta: u16, limits: &mut [u16])
+// The limits of so many rides, behind those of the operators, by their words and minimums.
+fn fill_rides(
+    presence: &[u16],
+    minimums: &[u16],
+    beta: u16,
+    high: u16,
+    limits: &mut [u16],
+    operators: usize,
+    rides: usize,
+)
     requires { ⌜
-        (head .operators ≤ 200) × (head .rides ≤ 60) × (mark-places head ≤ length (now presence)) × (mark-places head ≤ length (now limits))
+        (operators ≤ 200) × (rides ≤ 60) × (operators + rides ≤ length (now presence)) × (rides ≤ length (now minimums)) × (operators + rides ≤ length (now limits))
         ⌝ }
     ensures { λ _. ⌜
-        ((x : ℕ) → x < mark-places head → limit-of (now (limits .exit)) x ≡ peel-limits head (now (presence .entry)) alpha beta x)
+        ((x : ℕ) → x < operators → limit-of (now (limits .exit)) x ≡ limit-of (now (limits .entry)) x) ×
+        ((v : ℕ) → v < rides →
+        limit-of (now (limits .exit)) (operators + v)
+        ≡ elim (present (now (presence .entry)) (operators + v)) [ true ↦ ride-limit (now (minimums .entry)) beta v | false ↦ high ])
+        ⌝ }
+{
+    let mut v = 0;
+    while v < rides {
+        limits[operators + v] = node_limit(
+            presence[operators + v],
+            own_limit(minimums[v], beta),
+            high,
+        );
+        v += 1;
+    }
+}
+
+// The limits of a peel (alpha, beta) with minimums: whoever is off or out falls short. The high limit is above the number of nodes, which no degree
+// exceeds.
+pub fn fill(
+    head: Head,
+    presence: &[u16],
+    minimums: &[u16],
+    alpha: u16,
+    beta: u16,
+    limits: &mut [u16],
+)
+    requires { ⌜
+        (head .operators ≤ 200) × (head .rides ≤ 60) × (mark-places head ≤ length (now presence)) × (head .rides ≤ length (now minimums)) ×
+        (mark-places head ≤ length (now limits))
+        ⌝ }
+    ensures { λ _. ⌜
+        ((x : ℕ) → x < mark-places head →
+        limit-of (now (limits .exit)) x ≡ peel-limits head (now (presence .entry)) (now (minimums .entry)) alpha beta x)
         ⌝ }
 {
     let n = head.operators as usize;
-    let w = n + head.rides as usize;
+    let m = head.rides as usize;
     let high = head.operators + head.rides + 1;
-    fill_side(presence, alpha, high, limits, 0, n);
-    fill_side(presence, beta, high, limits, n, w);
+    fill_operators(presence, alpha, high, limits, n);
+    fill_rides(presence, minimums, beta, high, limits, n, m);
 }
 
 // 1 where a degree is below the limit.

@@ -1,4 +1,5 @@
--- Document 01, What the board does, and document 02, 2.1 and 2.4: build, query and peel, each a function from all that comes in to all that comes out.
+-- Document 01, What the board does, and document 02, 2.1, 2.4 and 2.7: build, query, peel and the cover with minimums, each a function from all
+-- that comes in to all that comes out.
 use mathlib.Core.Bool.{true, false, _&&_}
 use mathlib.Core.List.{List}
 use Prim.Native.Nat.{ℕ, zero, suc, _+_, _-_, _*_}
@@ -8,10 +9,10 @@ use Rattle.model.specs.declared.Head.{Head}
 use Rattle.model.specs.declared.Counts.{Counts}
 use Rattle.model.specs.declared.Peeled.{Peeled}
 use Rattle.model.specs.Count.{bit, count, values}
-use Rattle.model.specs.Graph.{Graph, limits, marked, present, raised, settled, removals, peel, row-for, in-by-level}
+use Rattle.model.specs.Graph.{Graph, limits, own-limits, marked, present, raised, settled, removals, peel, cover-under, row-for, in-by-level}
 use Rattle.model.specs.Layout.{Board, mark-places, over, onto, counting-graph, listed-graph}
 use Rattle.model.specs.Contents.{Pair, Operator, Ride, Contents, unheard, board-of}
-use Rattle.model.specs.Refusal.{build-refusal, query-refusal, peel-refusal}
+use Rattle.model.specs.Refusal.{build-refusal, query-refusal, peel-refusal, own-cover-refusal}
 
 -- what a build gives: the number, and the board at exit
 pub record BuildOutcome : Type 0 where
@@ -98,15 +99,32 @@ peeled g limit allowed marks =
       marks = peel g limit allowed marks;
     }
 
--- the limits of a peel (α, β): whoever is off or out falls short
-abbrev pub peel-limits : Head → List ℕ → ℕ → ℕ → ℕ → ℕ
-peel-limits h presence α β = raised (mark-places h) (present presence) (limits (h .operators) α β)
+-- these limits, with whoever is off or out falling short
+abbrev pub present-limits : Head → List ℕ → (ℕ → ℕ) → ℕ → ℕ
+present-limits h presence limit = raised (mark-places h) (present presence) limit
+
+-- the limits of a peel (α, β) with minimums
+abbrev pub peel-limits : Head → List ℕ → List ℕ → ℕ → ℕ → ℕ → ℕ
+peel-limits h presence minimums α β = present-limits h presence (own-limits (h .operators) minimums α β)
 
 -- Peel; it clears no mark past the nodes
-unfoldable pub board-peel : Head → List ℕ → List ℕ → List ℕ → List ℕ → ℕ → ℕ → ℕ → PeelOutcome
-board-peel h operators rides presence marks α β allowed =
-    elim (peel-refusal h operators rides presence marks) [
+unfoldable pub board-peel : Head → List ℕ → List ℕ → List ℕ → List ℕ → List ℕ → ℕ → ℕ → ℕ → PeelOutcome
+board-peel h operators rides presence minimums marks α β allowed =
+    elim (peel-refusal h operators rides presence minimums marks) [
       | zero ↦
-          peeled (counting-graph h operators rides presence) (peel-limits h presence α β) allowed marks
+          peeled (counting-graph h operators rides presence) (peel-limits h presence minimums α β) allowed marks
       | suc k ↦ record { answer = record { code = suc k; settled = 0; steps = 0 }; marks = marks }
+    ]
+
+-- the cover under these limits of the pairs that count and those present, as marks: the peel from all ones
+unfoldable pub present-cover : Head → List ℕ → List ℕ → List ℕ → (ℕ → ℕ) → List ℕ
+present-cover h operators rides presence limit =
+    cover-under (counting-graph h operators rides presence) (present-limits h presence limit)
+
+-- Cover with minimums
+unfoldable pub board-own-cover : Head → List ℕ → List ℕ → List ℕ → List ℕ → ℕ → ℕ → List ℕ → QueryOutcome
+board-own-cover h operators rides presence minimums α β marks =
+    elim (own-cover-refusal h operators rides presence minimums marks) [
+      | zero ↦ shown h (present-cover h operators rides presence (own-limits (h .operators) minimums α β)) marks
+      | suc k ↦ not-shown (suc k) marks
     ]

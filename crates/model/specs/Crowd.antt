@@ -9,10 +9,9 @@ use Rattle.model.specs.declared.Band.{Band}
 use Rattle.model.specs.declared.Bands.{Bands}
 use Rattle.model.specs.declared.CrowdLimits.{CrowdLimits}
 use Rattle.model.specs.Count.{count, some, lowest}
-use Rattle.model.specs.Graph.{cover-under}
-use Rattle.model.specs.Layout.{counting-graph}
-use Rattle.model.specs.Refusal.{first-number, peel-cases}
-use Rattle.model.specs.Calls.{QueryOutcome, shown, not-shown, peel-limits}
+use Rattle.model.specs.Graph.{limits}
+use Rattle.model.specs.Refusal.{first-number, cover-cases}
+use Rattle.model.specs.Calls.{QueryOutcome, shown, not-shown, present-cover}
 
 -- the largest number of guests
 abbrev pub most-guests : ℕ
@@ -68,20 +67,19 @@ board-crowd-limits t guests =
       | suc k ↦ record { code = suc k; alpha = 0; beta = 0 }
     ]
 
--- the cover (α, β) of the pairs that count and those present, as marks: the peel from all ones
-unfoldable pub present-cover : Head → List ℕ → List ℕ → List ℕ → ℕ → ℕ → List ℕ
-present-cover h operators rides presence α β =
-    cover-under (counting-graph h operators rides presence) (peel-limits h presence α β)
+-- the limits of the band that a guest count falls in, the same for every ride; own minimums don't count here
+abbrev pub band-limits : Head → Bands → ℕ → ℕ → ℕ
+band-limits h t guests = limits (h .operators) (band-for t guests .alpha) (band-for t guests .beta)
 
 -- cover for a guest count: 1 to 5, then 16 to 18
 unfoldable pub crowd-cover-refusal : Head → List ℕ → List ℕ → List ℕ → Bands → ℕ → List ℕ → ℕ
 crowd-cover-refusal h operators rides presence t guests marks =
-    first-number (peel-cases h operators rides presence marks ++ crowd-cases t guests)
+    first-number (cover-cases h operators rides presence marks ++ crowd-cases t guests)
 
 -- Cover for a guest count: the cover for the limits of its band
 unfoldable pub board-crowd-cover : Head → List ℕ → List ℕ → List ℕ → Bands → ℕ → List ℕ → QueryOutcome
 board-crowd-cover h operators rides presence t guests marks =
     elim (crowd-cover-refusal h operators rides presence t guests marks) [
-      | zero ↦ shown h (present-cover h operators rides presence (band-for t guests .alpha) (band-for t guests .beta)) marks
+      | zero ↦ shown h (present-cover h operators rides presence (band-limits h t guests)) marks
       | suc k ↦ not-shown (suc k) marks
     ]

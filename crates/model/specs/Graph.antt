@@ -1,5 +1,5 @@
--- Document 000, Definition 2.1; document 01, Terms and Peel; document 02, 2.1 and 2.4: degree, the largest set under limits, counting pairs, peel,
--- cover, level, index.
+-- Document 000, Definition 2.1; document 01, Terms and Peel; document 02, 2.1, 2.4 and 2.7: degree, the largest set under limits, minimums,
+-- counting pairs, peel, cover, level, index.
 -- Nodes are numbered as marks and index rows are: operators 0 .. operators - 1, then rides.
 use mathlib.Core.Bool.{Bool, true, false, _&&_, _||_, not}
 use mathlib.Core.List.{List, [], _∷_}
@@ -47,6 +47,14 @@ pub record Largest (g : Graph) (limit : ℕ → ℕ) (start s : ℕ → Bool) : 
 -- the limits of a cover (α, β), with so many operators: α for operators, β for rides; 0 is no limit
 unfoldable pub limits : ℕ → ℕ → ℕ → ℕ → ℕ
 limits operators α β x = elim (ltb x operators) [ true ↦ α | false ↦ β ]
+
+-- Document 02, 2.7: the limit of ride v, by a list of minimums: its own minimum where that isn't 0, β elsewhere
+abbrev pub ride-limit : List ℕ → ℕ → ℕ → ℕ
+ride-limit minimums β v = elim (eqb (getD minimums v 0) 0) [ true ↦ β | false ↦ getD minimums v 0 ]
+
+-- Document 02, 2.7: the limits of a cover (α, β) with minimums: α for operators, for each ride its own minimum where it has one, else β
+unfoldable pub own-limits : ℕ → List ℕ → ℕ → ℕ → ℕ → ℕ
+own-limits operators minimums α β x = limits operators α (ride-limit minimums β (x - operators)) x
 
 -- Definition 2.1 inside a set: s is the largest set of those who are here whose nodes all meet the limits (α, β)
 abbrev pub CoreInside : Graph → (ℕ → Bool) → ℕ → ℕ → (ℕ → Bool) → Type 0

@@ -63,12 +63,13 @@ fn peel_tables(
     }
 }
 
-// Peels under the limits (alpha, beta) those pairs that count, over tables of zeros and room for the limits.
+// Peels under the limits (alpha, beta) with minimums those pairs that count, over tables of zeros and room for the limits.
 pub fn peel_over(
     head: Head,
     operators: &[u16],
     rides: &[u16],
     presence: &[u16],
+    minimums: &[u16],
     by_operator: &mut [u8],
     by_ride: &mut [u8],
     limits: &mut [u16],
@@ -80,6 +81,7 @@ pub fn peel_over(
     requires { ⌜
         AcceptedPairs head (now operators) (now rides) ×
         (mark-places head ≤ length (now presence)) ×
+        (head .rides ≤ length (now minimums)) ×
         ZeroTables (now «by_operator») (now «by_ride») ×
         (mark-places head ≤ length (now limits)) ×
         (mark-places head ≤ length (now marks))
@@ -87,12 +89,12 @@ pub fn peel_over(
     ensures { λ r. ⌜
         Gives
         (peeled (counting-graph head (now (operators .entry)) (now (rides .entry)) (now (presence .entry)))
-        (peel-limits head (now (presence .entry)) alpha beta) steps (now (marks .entry)))
+        (peel-limits head (now (presence .entry)) (now (minimums .entry)) alpha beta) steps (now (marks .entry)))
         r (now (marks .exit))
         ⌝ }
 {
     let here = degrees::present_and_marked(head, presence, marks);
     let degrees = degrees::tabulate(head, operators, rides, &here, by_operator, by_ride);
-    limits::fill(head, presence, alpha, beta, limits);
+    limits::fill(head, presence, minimums, alpha, beta, limits);
     peel_tables(head, by_operator, by_ride, degrees, limits, marks, steps)
 }

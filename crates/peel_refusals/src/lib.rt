@@ -1,20 +1,27 @@
-// Document 01's numbers of a peel: the lowest that applies, 0 if none does.
+// Document 01's numbers of a peel, and of a cover found by one: the lowest that applies, 0 if none does.
 ghost use mathlib.Core.Path.{_≡_};
 ghost use mathlib.Core.Bool.{_||_};
 ghost use Prim.Native.Nat.{_≤_};
 ghost use lib.ListN.{length};
 ghost use Rattle.model.specs.Layout.{pair-places, mark-places};
-ghost use Rattle.model.specs.Refusal.{refused-3, refused-12, first-number, peel-cases, peel-refusal};
+ghost use Rattle.model.specs.Refusal.{refused-3, refused-12, first-number, cover-short, peel-cases, peel-refusal};
 use model::Head;
 use refusals::table_number;
 
-// Whether a pair array is shorter than operators × rides, or the presence words or the marks than operators + rides.
-fn short_peel(head: Head, operators: &[u16], rides: &[u16], presence: &[u16], marks: &[u16]) -> bool
+// Whether a pair array is shorter than operators × rides, the presence words or the marks than operators + rides, or the minimums than rides.
+fn short_peel(
+    head: Head,
+    operators: &[u16],
+    rides: &[u16],
+    presence: &[u16],
+    minimums: &[u16],
+    marks: &[u16],
+) -> bool
     ensures { λ r. ⌜
         r
         ≡
-        (refused-3 (pair-places head) (now (operators .entry)) || refused-3 (pair-places head) (now (rides .entry)) || refused-3 (mark-places head)
-        (now (presence .entry)) || refused-3 (mark-places head) (now (marks .entry)))
+        (cover-short head (now (operators .entry)) (now (rides .entry)) (now (presence .entry)) (now (marks .entry)) ||
+        refused-3 (head .rides) (now (minimums .entry)))
         ⌝ }
 {
     let n = head.operators as usize;
@@ -29,7 +36,10 @@ fn short_peel(head: Head, operators: &[u16], rides: &[u16], presence: &[u16], ma
     if presence.len() < n + m {
         return true;
     }
-    marks.len() < n + m
+    if marks.len() < n + m {
+        return true;
+    }
+    minimums.len() < m
 }
 
 // Whether a mark in use is not 0 or 1.
@@ -54,11 +64,16 @@ pub fn lent_number(
     operators: &[u16],
     rides: &[u16],
     presence: &[u16],
+    minimums: &[u16],
     marks: &[u16],
 ) -> u16
-    ensures { λ r. ⌜ r ≡ first-number (peel-cases head (now (operators .entry)) (now (rides .entry)) (now (presence .entry)) (now (marks .entry))) ⌝ }
+    ensures { λ r. ⌜
+        r
+        ≡ first-number
+        (peel-cases head (now (operators .entry)) (now (rides .entry)) (now (presence .entry)) (now (minimums .entry)) (now (marks .entry)))
+        ⌝ }
 {
-    let short = short_peel(head, operators, rides, presence, marks);
+    let short = short_peel(head, operators, rides, presence, minimums, marks);
     table_number(head, short, operators, rides)
 }
 
@@ -68,11 +83,14 @@ pub fn peel_number(
     operators: &[u16],
     rides: &[u16],
     presence: &[u16],
+    minimums: &[u16],
     marks: &[u16],
 ) -> u16
-    ensures { λ r. ⌜ r ≡ peel-refusal head (now (operators .entry)) (now (rides .entry)) (now (presence .entry)) (now (marks .entry)) ⌝ }
+    ensures { λ r. ⌜
+        r ≡ peel-refusal head (now (operators .entry)) (now (rides .entry)) (now (presence .entry)) (now (minimums .entry)) (now (marks .entry))
+        ⌝ }
 {
-    let number = lent_number(head, operators, rides, presence, marks);
+    let number = lent_number(head, operators, rides, presence, minimums, marks);
     if number != 0 {
         return number;
     }

@@ -11,6 +11,7 @@ pub fn peel(
     operators: &[u16],
     rides: &[u16],
     presence: &[u16],
+    minimums: &[u16],
     marks: &mut [u16],
     alpha: u16,
     beta: u16,
@@ -18,10 +19,11 @@ pub fn peel(
 ) -> Peeled
     ensures { λ r. ⌜
         peel-left r (now (marks .exit))
-        ≡ board-peel head (now (operators .entry)) (now (rides .entry)) (now (presence .entry)) (now (marks .entry)) alpha beta steps
+        ≡ board-peel head (now (operators .entry)) (now (rides .entry)) (now (presence .entry)) (now (minimums .entry)) (now (marks .entry)) alpha beta
+        steps
         ⌝ }
 {
-    let number = peel_refusals::peel_number(head, operators, rides, presence, marks);
+    let number = peel_refusals::peel_number(head, operators, rides, presence, minimums, marks);
     if number != 0 {
         return Peeled {
             code: number,
@@ -37,6 +39,7 @@ pub fn peel(
         operators,
         rides,
         presence,
+        minimums,
         &mut by_operator,
         &mut by_ride,
         &mut limits,
