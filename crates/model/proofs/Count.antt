@@ -86,6 +86,11 @@ pub bit-test : (b : Bool) → eqb (bit b) 1 ≡ b
 bit-test true = refl
 bit-test false = refl
 
+-- a test whose bit is 0 fails
+pub bit-zero : (b : Bool) → bit b ≡ 0 → T (not b)
+bit-zero true e = absurd (let z : ⊥ = omega arith in z)
+bit-zero false e = tt
+
 -- a number up to 1 is a bit
 pub bit-of : (x : ℕ) → x ≤ 1 → x ≡ bit (eqb x 1)
 bit-of zero h = refl

@@ -1,16 +1,16 @@
 -- Cover (α, β) is the (α, β)-core of Definition 2.1, and covers nest. Assumes nothing.
-use mathlib.Core.Path.{_≡_, sym, ap, _∙_, subst}
+use mathlib.Core.Path.{_≡_, refl, sym, ap, _∙_, subst}
 use mathlib.Core.Bool.{Bool, _&&_}
 use mathlib.Core.List.{List}
 use Prim.Native.Nat.{ℕ, _+_, _-_, _≤_, _<_}
 use native.Mathlib.Omega.{arith}
 use native.Mathlib.Decide.{decLt}
 use lib.Dec.{T}
-use borrow.Author.Tests.{lt-ltb, le-ltb}
+use borrow.Author.Tests.{lt-ltb, le-ltb, eq-eqb, ne-eqb}
 use lib.ListN.{length, getD, replicate, length-replicate}
 use lib.Seq.{ext-getD}
 use Rattle.model.specs.Count.{bit}
-use Rattle.model.specs.Graph.{Graph, nodes, degree, everybody, Inside, Meets, Largest, limits, Core, marked, settled, peel, cover-under, cover}
+use Rattle.model.specs.Graph.{Graph, nodes, degree, everybody, Inside, Meets, Largest, limits, ride-limit, own-limits, Core, marked, settled, peel, cover-under, cover}
 use Rattle.model.specs.Demand.{AllOnes, CoverLaws, CoverUnderLaws}
 use Rattle.model.proofs.Count.{bit-of, and-right, count-le, count-witness}
 use Rattle.model.proofs.Peel.{degree-operator, degree-ride, all-ones, all-marked, peel-least, length-peel, peel-laws}
@@ -28,6 +28,43 @@ module _ (n α β x : ℕ) where
   pub limits-either : (P : ℕ → Type 0) → P α → P β → P (limits n α β x)
   limits-either P a b =
       elim (decLt x n) [ yes h ↦ subst P (sym (limits-operator h)) a | no h ↦ subst P (sym (limits-ride (omega arith))) b ]
+
+-- ---- minimums
+
+module _ (minimums : List ℕ) (β v : ℕ) where
+  -- a ride without a minimum has the limit β, any other its own
+  pub ride-none : getD minimums v 0 ≡ 0 → ride-limit minimums β v ≡ β
+  ride-none e = rw (eq-eqb (getD minimums v 0) 0 e, ride-limit)
+
+  pub ride-own : (m : ℕ) → 1 ≤ m → getD minimums v 0 ≡ m → ride-limit minimums β v ≡ m
+  ride-own m l e = rw (ne-eqb (getD minimums v 0) 0 (λ z. omega (arith, z, e)), ride-limit) e
+
+module _ (n : ℕ) (minimums : List ℕ) (α β x : ℕ) where
+  pub own-operator : x < n → own-limits n minimums α β x ≡ α
+  unfolding own-limits
+  own-operator h = limits-operator n α (ride-limit minimums β (x - n)) x h
+
+  pub own-ride : n ≤ x → own-limits n minimums α β x ≡ ride-limit minimums β (x - n)
+  unfolding own-limits
+  own-ride h = limits-ride n α (ride-limit minimums β (x - n)) x h
+
+-- where the limits of the rides are those of other minimums, so are those of all nodes
+pub own-same : (n m : ℕ) (minimums minimums′ : List ℕ) (α β β′ : ℕ) → ((v : ℕ) → v < m → ride-limit minimums β v ≡ ride-limit minimums′ β′ v) → (x : ℕ) → x < n + m → own-limits n minimums α β x ≡ own-limits n minimums′ α β′ x
+own-same n m minimums minimums′ α β β′ same x l =
+    elim (decLt x n) [
+      | yes h ↦ own-operator n minimums α β x h ∙ sym (own-operator n minimums′ α β′ x h)
+      | no h ↦ own-ride n minimums α β x (omega arith) ∙ same (x - n) (omega arith) ∙ sym (own-ride n minimums′ α β′ x (omega arith))
+    ]
+
+-- where every ride has the limit b, they are the limits (α, b)
+pub own-one : (n m : ℕ) (minimums : List ℕ) (α β b : ℕ) → ((v : ℕ) → v < m → ride-limit minimums β v ≡ b) → (x : ℕ) → x < n + m → own-limits n minimums α β x ≡ limits n α b x
+own-one n m minimums α β b one x l =
+    elim (decLt x n) [
+      | yes h ↦ own-operator n minimums α β x h ∙ sym (limits-operator n α b x h)
+      | no h ↦ own-ride n minimums α β x (omega arith) ∙ one (x - n) (omega arith) ∙ sym (limits-ride n α b x (omega arith))
+    ]
+
+-- ---- larger limits
 
 module _ (g : Graph) (α α′ β β′ : ℕ) (a : α ≤ α′) (b : β ≤ β′) where
   limits-mono : (x : ℕ) → limits (g .operators) α β x ≤ limits (g .operators) α′ β′ x
@@ -95,7 +132,7 @@ module _ (g : Graph) (limit : ℕ → ℕ) where
       bit-of (getD s x 0) (bits x k) ∙ ap bit (peel-laws .only g limit everybody (marked s) (marked c) l under-largest x k) ∙ sym (bit-of (getD c x 0) (under-bits x k)))
 
 -- a largest set under limits is one under limits that are the same for every node
-largest-under : (g : Graph) (limit limit′ : ℕ → ℕ) → ((x : ℕ) → x < nodes g → limit x ≡ limit′ x) → (start s : ℕ → Bool) → Largest g limit start s → Largest g limit′ start s
+pub largest-under : (g : Graph) (limit limit′ : ℕ → ℕ) → ((x : ℕ) → x < nodes g → limit x ≡ limit′ x) → (start s : ℕ → Bool) → Largest g limit start s → Largest g limit′ start s
 largest-under g limit limit′ same start s l =
     record {
       inside = l .inside;

@@ -13,7 +13,7 @@ use lib.Seq.{getD-set-same, getD-set-other}
 use Rattle.model.specs.declared.Head.{Head}
 use Rattle.model.specs.declared.Message.{Message}
 use Rattle.model.specs.Layout.{Board}
-use Rattle.model.specs.Refusal.{first-number, build-refusal, query-refusal, message-refusal, preview-refusal, list-refusal, peel-refusal}
+use Rattle.model.specs.Refusal.{first-number, build-refusal, query-refusal, message-refusal, preview-refusal, list-refusal, peel-refusal, own-cover-refusal}
 use Rattle.model.specs.Calls.{counts, board-build, board-query, peeled, board-peel}
 use Rattle.model.specs.Crowd.{crowd-refusal, crowd-cover-refusal}
 use Rattle.model.specs.Message.{ListOutcome, in-order, board-message, board-messages}
@@ -21,6 +21,7 @@ use Rattle.model.specs.Demand.{NeverEleven}
 use Rattle.model.proofs.Count.{by-test, and-left, and-right}
 use Rattle.model.proofs.Chain.{first-here, first-skip}
 use Rattle.model.proofs.CrowdTable.{limits-code}
+use Rattle.model.proofs.OwnCover.{own-code}
 use Rattle.model.proofs.CrowdCover.{cover-code}
 use Rattle.model.proofs.Taken.{message-code, list-taken, list-refused}
 use Rattle.model.proofs.Preview.{preview-code}
@@ -50,10 +51,10 @@ unfolding board-query counts
 query-code h index presence α β marks zero e = rw (e, board-query)
 query-code h index presence α β marks (suc k) e = rw (e, board-query)
 
-peel-code : (h : Head) (operators rides presence marks : List ℕ) (α β allowed k : ℕ) → peel-refusal h operators rides presence marks ≡ k → board-peel h operators rides presence marks α β allowed .answer .code ≡ k
+peel-code : (h : Head) (operators rides presence minimums marks : List ℕ) (α β allowed k : ℕ) → peel-refusal h operators rides presence minimums marks ≡ k → board-peel h operators rides presence minimums marks α β allowed .answer .code ≡ k
 unfolding board-peel peeled
-peel-code h operators rides presence marks α β allowed zero e = rw (e, board-peel)
-peel-code h operators rides presence marks α β allowed (suc k) e = rw (e, board-peel)
+peel-code h operators rides presence minimums marks α β allowed zero e = rw (e, board-peel)
+peel-code h operators rides presence minimums marks α β allowed (suc k) e = rw (e, board-peel)
 
 order-code : (ms : List Message) (at : ℕ) (b : Board) (answers : List ℕ) → in-order ms at b answers .code ≡ 0
 unfolding in-order
@@ -100,12 +101,13 @@ list-never b ms answers i z l e =
     (subst (λ (o : ListOutcome). getD (o .answers) i 0 ≡ 11) (list-taken b ms answers none) e))
 
 pub never-eleven : NeverEleven
-unfolding build-refusal query-refusal peel-refusal crowd-refusal crowd-cover-refusal preview-refusal list-refusal
+unfolding build-refusal query-refusal peel-refusal own-cover-refusal crowd-refusal crowd-cover-refusal preview-refusal list-refusal
 never-eleven =
     record {
       build = λ b start e. first-lacks 11 (λ q. omega arith) _ tt (sym (build-code b start _ refl) ∙ e);
       query = λ h index presence α β marks e. first-lacks 11 (λ q. omega arith) _ tt (sym (query-code h index presence α β marks _ refl) ∙ e);
-      peel = λ h operators rides presence marks α β allowed e. first-lacks 11 (λ q. omega arith) _ tt (sym (peel-code h operators rides presence marks α β allowed _ refl) ∙ e);
+      peel = λ h operators rides presence minimums marks α β allowed e. first-lacks 11 (λ q. omega arith) _ tt (sym (peel-code h operators rides presence minimums marks α β allowed _ refl) ∙ e);
+      own-cover = λ h operators rides presence minimums α β marks e. first-lacks 11 (λ q. omega arith) _ tt (sym (own-code h operators rides presence minimums α β marks _ refl) ∙ e);
       crowd-limits = λ t guests e. first-lacks 11 (λ q. omega arith) _ tt (sym (limits-code t guests _ refl) ∙ e);
       crowd-cover = λ h operators rides presence t guests marks e. first-lacks 11 (λ q. omega arith) _ tt (sym (cover-code h operators rides presence t guests marks _ refl) ∙ e);
       message = message-never;

@@ -7,18 +7,19 @@ use Prim.Native.Nat.{ℕ, suc, _+_, _-_, _*_, _≤_, _<_}
 use native.Mathlib.Omega.{arith}
 use native.Mathlib.Decide.{decLe}
 use native.Mathlib.Nat.{suc-mul, mul-le-mul-right}
-use lib.Dec.{T, ltb, eqb, ltb→lt}
+use lib.Dec.{T, ltb, eqb, ltb→lt, T-not}
 use lib.ListN.{length, getD, drop, length-append, List·getD-append}
 use Rattle.model.specs.declared.Head.{Head}
 use Rattle.model.specs.declared.Counts.{Counts}
 use Rattle.model.specs.Count.{bit, values}
-use Rattle.model.specs.Graph.{Graph, nodes, Largest, limits, CoreInside, marked, present, counting, settled, peel, level, row-for, in-by-level, index-of}
+use Rattle.model.specs.Graph.{Graph, nodes, Largest, limits, ride-limit, own-limits, marked, present, counting, settled, peel, level, row-for, in-by-level, index-of}
 use Rattle.model.specs.Layout.{Operators, Rides, Index, Presence, Board, pair-places, mark-places, index-places, over, sized, counting-graph, listed-graph, board-graph}
 use Rattle.model.specs.Contents.{Pair, Operator, Ride, Entry, gives, Contents, counted, node-slot, words}
-use Rattle.model.specs.Refusal.{refused-1, refused-2, refused-3, refused-12, first-number, peel-cases, build-refusal, query-refusal, peel-refusal}
+use Rattle.model.specs.Refusal.{refused-1, refused-2, refused-3, refused-12, first-number, cover-short, cover-cases, peel-cases, build-refusal, query-refusal, peel-refusal}
 use Rattle.model.specs.Calls.{start-contents, built, board-build, level-read, query-marks, counts, shown, board-query, peel-limits, peeled, board-peel}
-use Rattle.model.specs.Demand.{AllOnes, IsCore, IndexThenQuery, BuildThenQuery, PeelIsLargest, IsPeeledCore, PeelIsCore}
-use Rattle.model.proofs.Count.{test-true, bit-test, and-true, or-cases, count-le, count-ext, some-witness, length-values, getD-values, values-ext, length-rows}
+use Rattle.model.specs.Demand.{AllOnes, IsCoverUnder, IsCore, IndexThenQuery, BuildThenQuery, IsPeeled, PeelIsLargest, IsPeeledCover, IsPeeledCore, PeelIsCover}
+use Rattle.model.proofs.Count.{test-true, test-false, bit-test, bit-zero, and-true, or-cases, count-le, count-ext, some-witness, length-values, getD-values, values-ext, length-rows}
+use Rattle.model.proofs.Cover.{ride-none, ride-own, own-one, largest-under}
 use Rattle.model.proofs.Peel.{all-marked, peel-laws}
 use Rattle.model.proofs.Level.{index-same}
 use Rattle.model.proofs.Presence.{largest-inside, all-count, core-all, largest-start}
@@ -91,13 +92,13 @@ module _ (h : Head) (new marks : List ℕ) (long : length new ≡ mark-places h)
       let of-rides = count-ext (λ (v : ℕ). marked (over new marks) (h .operators + v)) (λ (v : ℕ). marked new (h .operators + v)) (h .rides) (λ v l. sym (marked-over (h .operators + v) (omega arith))) in
       λ i. record { code = 0; operators = of-operators i; rides = of-rides i }
 
--- the core, shown over the marks that came in, with its sizes
-pub shown-core : (h : Head) (c : ℕ → ℕ → Bool) (here : ℕ → Bool) (α β : ℕ) (new marks : List ℕ) → length new ≡ mark-places h → CoreInside (sized h c) here α β (marked new) → IsCore (sized h c) here α β (shown h new marks)
+-- the largest set under limits, shown over the marks that came in, with its sizes
+pub shown-under : (h : Head) (c : ℕ → ℕ → Bool) (here : ℕ → Bool) (limit : ℕ → ℕ) (new marks : List ℕ) → length new ≡ mark-places h → Largest (sized h c) limit here (marked new) → IsCoverUnder (sized h c) here limit (shown h new marks)
 unfolding counts
-shown-core h c here α β new marks long core =
+shown-under h c here limit new marks long largest =
     record {
       code = refl;
-      core = largest-ext (sized h c) (limits (h .operators) α β) here (marked new) (marked (over new marks)) (marked-over h new marks long) core;
+      largest = largest-ext (sized h c) limit here (marked new) (marked (over new marks)) (marked-over h new marks long) largest;
       operators = sym (ap (λ (c : Counts). c .operators) (counts-over h new marks long));
       rides = sym (ap (λ (c : Counts). c .rides) (counts-over h new marks long));
     }
@@ -160,7 +161,7 @@ module _ (h : Head) (d : ℕ → ℕ → Bool) (presence more : List ℕ) (α β
   outcome : IsCore g here α β (board-query h index presence α β marks)
   outcome =
       subst (IsCore g here α β) (sym query-shown)
-      (shown-core h (g .cleared) here α β (query-marks h (index-of g) presence α β) marks (marks-long h (index-of g) presence α β) (query-is-core h d presence α β))
+      (shown-under h (g .cleared) here (limits (h .operators) α β) (query-marks h (index-of g) presence α β) marks (marks-long h (index-of g) presence α β) (query-is-core h d presence α β))
 
 pub index-then-query : IndexThenQuery
 index-then-query h d presence more α β marks few few′ here-long long = outcome h d presence more α β marks few few′ here-long long
@@ -175,66 +176,108 @@ build-then-query b start α β marks none long =
     let same : index-of (counting g here) ≡ index-of g = index-same g (counting g here .cleared) (λ u v p q. sym (all-count g here all u v p q)) in
     let o = outcome (b .head) (g .cleared) (presence b start none) more α β marks (t .few-operators) (t .few-rides) (presence-long b start none) long in
     let c = subst (λ (i : List ℕ). IsCore (counting g here) here α β (board-query (b .head) i (presence b start none) α β marks)) (ap (λ (i : List ℕ). i ++ more) same ∙ sym (built-index b start none)) o in
-    record { code = c .code; core = core-all g here all α β _ (c .core); operators = c .operators; rides = c .rides }
+    record { code = c .code; largest = core-all g here all α β _ (c .largest); operators = c .operators; rides = c .rides }
 
 -- ---- peel
 
--- on a board to which 1 to 5 do not apply, none of them applies to what is lent to a peel, and the numbers behind them decide
-peel-skip : (b : Board) (marks : List ℕ) (cs : List (ℕ × Bool)) → AcceptedTable b → mark-places (b .head) ≤ length marks → first-number (peel-cases (b .head) (b .part Operators) (b .part Rides) (b .part Presence) marks ++ cs) ≡ first-number cs
-peel-skip b marks cs t long =
+-- on a board to which 1 to 5 do not apply, none of them applies to what is lent to a cover or a peel, and the numbers behind them decide,
+-- where its marks, and its minimums if it has any, are long enough
+accepted-long : (b : Board) (marks : List ℕ) → AcceptedTable b → mark-places (b .head) ≤ length marks → T (cover-short (b .head) (b .part Operators) (b .part Rides) (b .part Presence) marks) → ⊥
+accepted-long b marks t long s =
     let h : Head = b .head in
     let o : Bool = refused-3 (pair-places h) (b .part Operators) in
     let r : Bool = refused-3 (pair-places h) (b .part Rides) in
     let p : Bool = refused-3 (mark-places h) (b .part Presence) in
     let m : Bool = refused-3 (mark-places h) marks in
-    table-skip b (o || r || p || m) cs t
-    (λ s. or-cases (o || r || p) m s (λ q. or-cases (o || r) p q (λ k. or-cases o r k (not-less (length (b .part Operators)) (pair-places h) (t .long Operators)) (not-less (length (b .part Rides)) (pair-places h) (t .long Rides))) (not-less (length (b .part Presence)) (mark-places h) (t .long Presence))) (not-less (length marks) (mark-places h) long))
+    or-cases (o || r || p) m s (λ q. or-cases (o || r) p q (λ k. or-cases o r k (not-less (length (b .part Operators)) (pair-places h) (t .long Operators)) (not-less (length (b .part Rides)) (pair-places h) (t .long Rides))) (not-less (length (b .part Presence)) (mark-places h) (t .long Presence))) (not-less (length marks) (mark-places h) long)
 
-pub peel-cases-none : (b : Board) (marks : List ℕ) → AcceptedTable b → mark-places (b .head) ≤ length marks → first-number (peel-cases (b .head) (b .part Operators) (b .part Rides) (b .part Presence) marks) ≡ 0
-peel-cases-none b marks t long = peel-skip b marks [] t long ∙ first-nil
+pub cover-cases-none : (b : Board) (marks : List ℕ) → AcceptedTable b → mark-places (b .head) ≤ length marks → first-number (cover-cases (b .head) (b .part Operators) (b .part Rides) (b .part Presence) marks) ≡ 0
+cover-cases-none b marks t long = table-skip b (cover-short (b .head) (b .part Operators) (b .part Rides) (b .part Presence) marks) [] t (accepted-long b marks t long) ∙ first-nil
+
+peel-skip : (b : Board) (minimums marks : List ℕ) (cs : List (ℕ × Bool)) → AcceptedTable b → b .head .rides ≤ length minimums → mark-places (b .head) ≤ length marks → first-number (peel-cases (b .head) (b .part Operators) (b .part Rides) (b .part Presence) minimums marks ++ cs) ≡ first-number cs
+peel-skip b minimums marks cs t enough long =
+    let s : Bool = cover-short (b .head) (b .part Operators) (b .part Rides) (b .part Presence) marks in
+    let n : Bool = refused-3 (b .head .rides) minimums in
+    table-skip b (s || n) cs t (λ k. or-cases s n k (accepted-long b marks t long) (not-less (length minimums) (b .head .rides) enough))
+
+pub own-cover-none : (b : Board) (minimums marks : List ℕ) → AcceptedTable b → b .head .rides ≤ length minimums → mark-places (b .head) ≤ length marks → first-number (peel-cases (b .head) (b .part Operators) (b .part Rides) (b .part Presence) minimums marks) ≡ 0
+own-cover-none b minimums marks t enough long = peel-skip b minimums marks [] t enough long ∙ first-nil
 
 -- and from all ones none of the peel's numbers applies
-pub peel-none : (b : Board) (marks : List ℕ) → AcceptedTable b → mark-places (b .head) ≤ length marks → AllOnes (board-graph b) marks → peel-refusal (b .head) (b .part Operators) (b .part Rides) (b .part Presence) marks ≡ 0
+pub peel-none : (b : Board) (minimums marks : List ℕ) → AcceptedTable b → b .head .rides ≤ length minimums → mark-places (b .head) ≤ length marks → AllOnes (board-graph b) marks → peel-refusal (b .head) (b .part Operators) (b .part Rides) (b .part Presence) minimums marks ≡ 0
 unfolding peel-refusal refused-12
-peel-none b marks t long ones =
+peel-none b minimums marks t enough long ones =
     let h : Head = b .head in
     let unknown : T (refused-12 h marks) → ⊥ = λ s. let w = some-witness (λ (x : ℕ). ltb 1 (getD marks x 0)) (mark-places h) s in omega (arith, ltb→lt 1 (getD marks (w .0) 0) (w .2), ones (w .0) (w .1)) in
-    peel-skip b marks ((12, refused-12 h marks) ∷ []) t long ∙
+    peel-skip b minimums marks ((12, refused-12 h marks) ∷ []) t enough long ∙
     first-skip 12 (refused-12 h marks) [] unknown ∙
     first-nil
 
-module _ (h : Head) (operators rides presence marks : List ℕ) (α β allowed : ℕ) (none : peel-refusal h operators rides presence marks ≡ 0) where
+module _ (h : Head) (operators rides presence minimums marks : List ℕ) (α β allowed : ℕ) (none : peel-refusal h operators rides presence minimums marks ≡ 0) where
   abbrev pairs : Graph
   pairs = counting-graph h operators rides presence
 
+  abbrev plain : ℕ → ℕ
+  plain = own-limits (h .operators) minimums α β
+
   abbrev limit : ℕ → ℕ
-  limit = peel-limits h presence α β
+  limit = peel-limits h presence minimums α β
+
+  abbrev start : ℕ → Bool
+  start x = marked marks x && present presence x
+
+  abbrev left : List ℕ
+  left = peel pairs limit allowed marks
 
   abbrev done : Bool
-  done = settled pairs limit (peel pairs limit allowed marks)
+  done = settled pairs limit left
 
-  peeled-largest : bit done ≡ 1 → Largest pairs (limits (h .operators) α β) (λ x. marked marks x && present presence x) (marked (peel pairs limit allowed marks))
+  peeled-largest : bit done ≡ 1 → Largest pairs plain start (marked left)
   peeled-largest e =
-      largest-inside pairs (present presence) (limits (h .operators) α β) (marked marks) (marked (peel pairs limit allowed marks))
+      largest-inside pairs (present presence) plain (marked marks) (marked left)
       (peel-laws .largest pairs limit allowed marks (subst T (bit-test done) (subst (λ (z : ℕ). T (eqb z 1)) (sym e) tt)))
 
-  settled-largest : board-peel h operators rides presence marks α β allowed .answer .settled ≡ 1 → Largest pairs (limits (h .operators) α β) (λ x. marked marks x && present presence x) (marked (board-peel h operators rides presence marks α β allowed .marks))
+  is-peeled : IsPeeled pairs (present presence) plain allowed start (board-peel h operators rides presence minimums marks α β allowed)
   unfolding board-peel peeled
-  settled-largest = rw (none, board-peel) peeled-largest
+  is-peeled =
+      let u = peel-laws .unsettled pairs limit allowed marks in
+      rw (none, board-peel)
+      (record {
+        code = refl;
+        largest = peeled-largest;
+        only = λ e s l. peel-laws .only pairs plain start s (marked left) l (peeled-largest e);
+        unsettled = (λ e. u .0 (bit-zero done e), λ w. ap bit (test-false done (T-not done (u .1 w))));
+      })
 
-  all-peeled : AllOnes pairs marks → IsPeeledCore pairs (present presence) α β allowed (board-peel h operators rides presence marks α β allowed)
+  all-peeled : AllOnes pairs marks → IsPeeledCover pairs (present presence) plain allowed (board-peel h operators rides presence minimums marks α β allowed)
   unfolding board-peel peeled
   all-peeled ones =
       rw (none, board-peel)
       (record {
         code = refl;
-        core = λ e. largest-start pairs (limits (h .operators) α β) (λ x. marked marks x && present presence x) (present presence) (marked (peel pairs limit allowed marks)) (λ x l. ap (λ (z : Bool). z && present presence x) (test-true (marked marks x) (all-marked pairs marks ones x l))) (peeled-largest e);
+        largest = λ e. largest-start pairs plain start (present presence) (marked left) (λ x l. ap (λ (z : Bool). z && present presence x) (test-true (marked marks x) (all-marked pairs marks ones x l))) (peeled-largest e);
         steps = peel-laws .steps-from-all pairs limit allowed marks ones;
         settles = λ l. ap bit (test-true done (peel-laws .settles pairs limit allowed marks (omega (arith, count-le (marked marks) (nodes pairs)))));
       })
 
-pub peel-is-largest : PeelIsLargest
-peel-is-largest = settled-largest
+  -- where every ride has the limit b, they are those of (α, b)
+  one-peeled : (b : ℕ) → ((v : ℕ) → v < h .rides → ride-limit minimums β v ≡ b) → AllOnes pairs marks → IsPeeledCore pairs (present presence) α b allowed (board-peel h operators rides presence minimums marks α β allowed)
+  one-peeled b one ones =
+      let c = all-peeled ones in
+      record {
+        code = c .code;
+        largest = λ e. largest-under pairs plain (limits (h .operators) α b) (own-one (h .operators) (h .rides) minimums α β b one) (present presence) (marked (board-peel h operators rides presence minimums marks α β allowed .marks)) (c .largest e);
+        steps = c .steps;
+        settles = c .settles;
+      }
 
-pub peel-is-core : PeelIsCore
-peel-is-core = all-peeled
+pub peel-is-largest : PeelIsLargest
+peel-is-largest = is-peeled
+
+pub peel-is-cover : (h : Head) (operators rides presence minimums marks : List ℕ) (α β allowed : ℕ) → peel-refusal h operators rides presence minimums marks ≡ 0 → AllOnes (counting-graph h operators rides presence) marks → PeelIsCover h operators rides presence minimums marks α β allowed
+peel-is-cover h operators rides presence minimums marks α β allowed none ones =
+    record {
+      own = all-peeled h operators rides presence minimums marks α β allowed none ones;
+      all-equal = λ m l all. one-peeled h operators rides presence minimums marks α β allowed none m (λ v k. ride-own minimums β v m l (all v k)) ones;
+      all-zero = λ all. one-peeled h operators rides presence minimums marks α β allowed none β (λ v k. ride-none minimums β v (all v k)) ones;
+    }

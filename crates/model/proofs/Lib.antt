@@ -16,6 +16,8 @@ pub mod Contents
 pub mod Taken
 pub mod Exact
 pub mod EndToEnd
+pub mod PresentCover
+pub mod OwnCover
 pub mod Preview
 pub mod CrowdTable
 pub mod CrowdCover

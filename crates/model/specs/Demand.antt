@@ -10,11 +10,11 @@ use Rattle.model.specs.declared.Head.{Head}
 use Rattle.model.specs.declared.Message.{Message}
 use Rattle.model.specs.declared.Bands.{Bands}
 use Rattle.model.specs.Count.{count, some}
-use Rattle.model.specs.Graph.{Graph, nodes, degree, everybody, Inside, Largest, limits, CoreInside, Core, marked, present, counting, raised, short, settled, removals, peel, cover-under, cover, level, row-for, in-by-level, index-of}
+use Rattle.model.specs.Graph.{Graph, nodes, degree, everybody, Inside, Largest, limits, own-limits, CoreInside, Core, marked, present, counting, raised, short, settled, removals, peel, cover-under, cover, level, row-for, in-by-level, index-of}
 use Rattle.model.specs.Layout.{Part, Index, Presence, Board, mark-places, places, of-parts, exact, copied, sized, counting-graph, listed-graph, board-graph}
 use Rattle.model.specs.Contents.{Slot, Pair, Operator, Ride, Entry, gives, later, slot, entry, contents}
-use Rattle.model.specs.Refusal.{refused-1, refused-2, refused-7, refused-8, refused-9, refused-14, outside, unused, first-number, board-short, valid-cases, peel-cases, build-refusal, list-refusal, peel-refusal}
-use Rattle.model.specs.Calls.{QueryOutcome, PeelOutcome, query-marks, board-build, board-query, board-peel}
+use Rattle.model.specs.Refusal.{refused-1, refused-2, refused-7, refused-8, refused-9, refused-14, outside, unused, first-number, board-short, valid-cases, cover-cases, peel-cases, build-refusal, list-refusal, peel-refusal}
+use Rattle.model.specs.Calls.{QueryOutcome, PeelOutcome, query-marks, board-build, board-query, board-peel, board-own-cover}
 use Rattle.model.specs.Crowd.{most-guests, band, board-crowd-limits, board-crowd-cover}
 use Rattle.model.specs.Message.{board-message, board-preview, board-messages}
 
@@ -134,8 +134,10 @@ pub record PresenceLaws : Type 0 where
 pub record NeverEleven : Type 0 where
   pub build : (b : Board) (start : ℕ) → board-build b start .code ≢ 11
   pub query : (h : Head) (index presence : List ℕ) (α β : ℕ) (marks : List ℕ) → board-query h index presence α β marks .answer .code ≢ 11
-  pub peel : (h : Head) (operators rides presence marks : List ℕ) (α β allowed : ℕ) →
-      board-peel h operators rides presence marks α β allowed .answer .code ≢ 11
+  pub peel : (h : Head) (operators rides presence minimums marks : List ℕ) (α β allowed : ℕ) →
+      board-peel h operators rides presence minimums marks α β allowed .answer .code ≢ 11
+  pub own-cover : (h : Head) (operators rides presence minimums : List ℕ) (α β : ℕ) (marks : List ℕ) →
+      board-own-cover h operators rides presence minimums α β marks .answer .code ≢ 11
   pub crowd-limits : (t : Bands) (guests : ℕ) → board-crowd-limits t guests .code ≢ 11
   pub crowd-cover : (h : Head) (operators rides presence : List ℕ) (t : Bands) (guests : ℕ) (marks : List ℕ) →
       board-crowd-cover h operators rides presence t guests marks .answer .code ≢ 11
@@ -207,12 +209,16 @@ QueryIsCore =
     let g = counting (sized h cleared) (present presence) in
     CoreInside g (present presence) α β (marked (query-marks h (index-of g) presence α β))
 
--- what a query gives is the (α, β)-core of those who are here, with its sizes
-pub record IsCore (g : Graph) (here : ℕ → Bool) (α β : ℕ) (o : QueryOutcome) : Type 0 where
+-- what a query or a cover gives is the largest set of those who are here under a limit for each node, with its sizes
+pub record IsCoverUnder (g : Graph) (here : ℕ → Bool) (limit : ℕ → ℕ) (o : QueryOutcome) : Type 0 where
   pub code : o .answer .code ≡ 0
-  pub core : CoreInside g here α β (marked (o .marks))
+  pub largest : Largest g limit here (marked (o .marks))
   pub operators : o .answer .operators ≡ count (g .operators) (marked (o .marks))
   pub rides : o .answer .rides ≡ count (g .rides) (λ v. marked (o .marks) (g .operators + v))
+
+-- the same under the limits (α, β): it is the (α, β)-core of those who are here, with its sizes
+abbrev pub IsCore : Graph → (ℕ → Bool) → ℕ → ℕ → QueryOutcome → Type 0
+IsCore g here α β o = IsCoverUnder g here (limits (g .operators) α β) o
 
 -- the same of the call, with any words behind the index: its marks are the core, and its counts the core's sizes
 abbrev pub IndexThenQuery : Type 0
@@ -243,32 +249,87 @@ PreviewThenQuery =
     let left = board-preview b m spare .board in
     IsCore (board-graph left) (present (left .part Presence)) α β (board-query (left .head) (left .part Index) (left .part Presence) α β marks)
 
--- Demand 2 for peels: settled marks are the largest set, of the marks that came in and those present, under α and β from 0, of any peel that
--- isn't refused
+-- what a peel gives under a limit for each node, with so many steps allowed; start is the set of the marks that came in, of those who are here
+pub record IsPeeled (g : Graph) (here : ℕ → Bool) (limit : ℕ → ℕ) (allowed : ℕ) (start : ℕ → Bool) (o : PeelOutcome) : Type 0 where
+  pub code : o .answer .code ≡ 0
+  -- settled, its marks are the largest set inside start under these limits, and no other set is
+  pub largest : o .answer .settled ≡ 1 → Largest g limit start (marked (o .marks))
+  pub only : o .answer .settled ≡ 1 → (s : ℕ → Bool) → Largest g limit start s → (x : ℕ) → x < nodes g → s x ≡ marked (o .marks) x
+  -- unsettled exactly if all allowed steps were taken and somebody still falls short; whoever is not here does
+  pub unsettled : (o .answer .settled ≡ 0) ↔ ((o .answer .steps ≡ allowed) × T (some (nodes g) (short g (raised (nodes g) here limit) (o .marks))))
+
+-- Demand 2 for peels, and document 02, 2.7: of any peel that isn't refused, under α from 0, and each ride's own minimum, or β from 0
 abbrev pub PeelIsLargest : Type 0
 PeelIsLargest =
-    (h : Head) (operators rides presence marks : List ℕ) (α β allowed : ℕ) →
-    peel-refusal h operators rides presence marks ≡ 0 →
-    let o = board-peel h operators rides presence marks α β allowed in
-    o .answer .settled ≡ 1 →
-    Largest (counting-graph h operators rides presence) (limits (h .operators) α β) (λ x. marked marks x && present presence x) (marked (o .marks))
+    (h : Head) (operators rides presence minimums marks : List ℕ) (α β allowed : ℕ) →
+    peel-refusal h operators rides presence minimums marks ≡ 0 →
+    IsPeeled (counting-graph h operators rides presence) (present presence) (own-limits (h .operators) minimums α β) allowed
+    (λ x. marked marks x && present presence x) (board-peel h operators rides presence minimums marks α β allowed)
 
--- what a peel from all ones gives, with so many steps allowed: settled, its marks are the (α, β)-core of those who are here; one step was taken
--- for each node that is out; and as many steps as there are nodes are enough to settle
-pub record IsPeeledCore (g : Graph) (here : ℕ → Bool) (α β allowed : ℕ) (o : PeelOutcome) : Type 0 where
+-- what a peel from all ones gives, with so many steps allowed: settled, its marks are the largest set of those who are here under a limit for each
+-- node; one step was taken for each node that is out; and as many steps as there are nodes are enough to settle
+pub record IsPeeledCover (g : Graph) (here : ℕ → Bool) (limit : ℕ → ℕ) (allowed : ℕ) (o : PeelOutcome) : Type 0 where
   pub code : o .answer .code ≡ 0
-  pub core : o .answer .settled ≡ 1 → CoreInside g here α β (marked (o .marks))
+  pub largest : o .answer .settled ≡ 1 → Largest g limit here (marked (o .marks))
   pub steps : o .answer .steps ≡ nodes g - members g (o .marks)
   pub settles : nodes g ≤ allowed → o .answer .settled ≡ 1
 
+-- the same under the limits (α, β): settled, its marks are the (α, β)-core of those who are here
+abbrev pub IsPeeledCore : Graph → (ℕ → Bool) → ℕ → ℕ → ℕ → PeelOutcome → Type 0
+IsPeeledCore g here α β allowed o = IsPeeledCover g here (limits (g .operators) α β) allowed o
+
+-- all minimums are m
+abbrev pub MinimumsAll : Head → List ℕ → ℕ → Type 0
+MinimumsAll h minimums m = (v : ℕ) → v < h .rides → getD minimums v 0 ≡ m
+
 -- "from all ones this is the cover", of any peel that isn't refused
-abbrev pub PeelIsCore : Type 0
-PeelIsCore =
-    (h : Head) (operators rides presence marks : List ℕ) (α β allowed : ℕ) →
-    peel-refusal h operators rides presence marks ≡ 0 →
-    let g = counting-graph h operators rides presence in
-    AllOnes g marks →
-    IsPeeledCore g (present presence) α β allowed (board-peel h operators rides presence marks α β allowed)
+pub record PeelIsCover (h : Head) (operators rides presence minimums marks : List ℕ) (α β allowed : ℕ) : Type 0 where
+  -- the cover with minimums
+  pub own : IsPeeledCover (counting-graph h operators rides presence) (present presence) (own-limits (h .operators) minimums α β) allowed
+      (board-peel h operators rides presence minimums marks α β allowed)
+  -- minimums all equal to one m above 0 give the cover (α, m), all 0 the cover (α, β)
+  pub all-equal : (m : ℕ) → 1 ≤ m → MinimumsAll h minimums m →
+      IsPeeledCore (counting-graph h operators rides presence) (present presence) α m allowed
+      (board-peel h operators rides presence minimums marks α β allowed)
+  pub all-zero : MinimumsAll h minimums 0 →
+      IsPeeledCore (counting-graph h operators rides presence) (present presence) α β allowed
+      (board-peel h operators rides presence minimums marks α β allowed)
+
+-- Document 02, 2.7, of a cover with any minimums, of any pair table and any presence words
+pub record OwnCoverLaws (h : Head) (operators rides presence minimums : List ℕ) (α β : ℕ) (marks : List ℕ) : Type 0 where
+  -- 1 to 5; a short list of minimums is 3
+  pub number : board-own-cover h operators rides presence minimums α β marks .answer .code ≡ first-number (peel-cases h operators rides presence minimums marks)
+  -- not refused, it is the largest set, of the pairs that count and those present, under α and each ride's own minimum, or β; its counts are its sizes
+  pub own : board-own-cover h operators rides presence minimums α β marks .answer .code ≡ 0 →
+      IsCoverUnder (counting-graph h operators rides presence) (present presence) (own-limits (h .operators) minimums α β)
+      (board-own-cover h operators rides presence minimums α β marks)
+  -- a settled peel from all ones with the same minimums leaves the same set
+  pub as-peel : (start : List ℕ) (allowed : ℕ) → board-own-cover h operators rides presence minimums α β marks .answer .code ≡ 0 →
+      peel-refusal h operators rides presence minimums start ≡ 0 → AllOnes (counting-graph h operators rides presence) start →
+      board-peel h operators rides presence minimums start α β allowed .answer .settled ≡ 1 → (x : ℕ) → x < mark-places h →
+      marked (board-peel h operators rides presence minimums start α β allowed .marks) x ≡ marked (board-own-cover h operators rides presence minimums α β marks .marks) x
+  -- minimums all equal to one m above 0 give the cover (α, m), all 0 the cover (α, β)
+  pub all-equal : (m : ℕ) → 1 ≤ m → MinimumsAll h minimums m → board-own-cover h operators rides presence minimums α β marks .answer .code ≡ 0 →
+      IsCore (counting-graph h operators rides presence) (present presence) α m (board-own-cover h operators rides presence minimums α β marks)
+  pub all-zero : MinimumsAll h minimums 0 → board-own-cover h operators rides presence minimums α β marks .answer .code ≡ 0 →
+      IsCore (counting-graph h operators rides presence) (present presence) α β (board-own-cover h operators rides presence minimums α β marks)
+  -- with all minimums 0 a query for these limits on an index of the same pairs gives the same
+  pub as-query : (more : List ℕ) → MinimumsAll h minimums 0 → board-own-cover h operators rides presence minimums α β marks .answer .code ≡ 0 →
+      board-query h (index-of (counting-graph h operators rides presence) ++ more) presence α β marks ≡ board-own-cover h operators rides presence minimums α β marks
+  -- refused, it leaves the marks, and its counts are 0
+  pub kept : board-own-cover h operators rides presence minimums α β marks .answer .code ≢ 0 →
+      board-own-cover h operators rides presence minimums α β marks .marks ≡ marks
+  pub no-operators : board-own-cover h operators rides presence minimums α β marks .answer .code ≢ 0 →
+      board-own-cover h operators rides presence minimums α β marks .answer .operators ≡ 0
+  pub no-rides : board-own-cover h operators rides presence minimums α β marks .answer .code ≢ 0 →
+      board-own-cover h operators rides presence minimums α β marks .answer .rides ≡ 0
+  -- places past operators + rides stay
+  pub behind : drop (mark-places h) (board-own-cover h operators rides presence minimums α β marks .marks) ≡ drop (mark-places h) marks
+  -- the marks that come in aren't read, nor are words behind the rides' minimums
+  pub any-answer : (other : List ℕ) → length other ≡ length marks →
+      board-own-cover h operators rides presence minimums α β other .answer ≡ board-own-cover h operators rides presence minimums α β marks .answer
+  pub any-behind : (more : List ℕ) → board-own-cover h operators rides presence minimums α β marks .answer .code ≡ 0 →
+      board-own-cover h operators rides presence (minimums ++ more) α β marks ≡ board-own-cover h operators rides presence minimums α β marks
 
 -- Document 02, 2.6. Guest count c falls in band i of a table
 pub record FallsIn (t : Bands) (c i : ℕ) : Type 0 where
@@ -323,9 +384,9 @@ pub record CrowdLimitsLaws (t : Bands) (guests : ℕ) : Type 0 where
 -- Document 02, 2.6, of a cover for any guest count by any table, of any pair table and any presence words
 pub record CrowdCoverLaws (h : Head) (operators rides presence : List ℕ) (t : Bands) (guests : ℕ) (marks : List ℕ) : Type 0 where
   -- the board's own checks come first, 1 to 5; where none applies it has the number of the look-up
-  pub board-first : first-number (peel-cases h operators rides presence marks) ≢ 0 →
-      board-crowd-cover h operators rides presence t guests marks .answer .code ≡ first-number (peel-cases h operators rides presence marks)
-  pub then-bands : first-number (peel-cases h operators rides presence marks) ≡ 0 →
+  pub board-first : first-number (cover-cases h operators rides presence marks) ≢ 0 →
+      board-crowd-cover h operators rides presence t guests marks .answer .code ≡ first-number (cover-cases h operators rides presence marks)
+  pub then-bands : first-number (cover-cases h operators rides presence marks) ≡ 0 →
       board-crowd-cover h operators rides presence t guests marks .answer .code ≡ board-crowd-limits t guests .code
   -- not refused, it is the core of the pairs that count and those present for the limits of the look-up, and its counts are its sizes
   pub core : board-crowd-cover h operators rides presence t guests marks .answer .code ≡ 0 →

@@ -1,0 +1,127 @@
+-- The cover with minimums: its number, that it is the largest set under its limits, and what it is where all minimums are one. Assumes nothing.
+use mathlib.Core.Path.{_≡_, refl, sym, ap, _∙_, subst}
+use mathlib.Core.Bool.{Bool, true, false, _||_}
+use mathlib.Core.List.{List, [], _∷_, _++_}
+use Prim.Native.Nat.{ℕ, zero, suc, _+_, _≤_, _<_}
+use native.Mathlib.Omega.{arith}
+use lib.Dec.{ltb, eqb}
+use borrow.Author.Tests.{le-ltb}
+use lib.ListN.{length, getD, length-append, List·getD-append}
+use Rattle.model.specs.declared.Head.{Head}
+use Rattle.model.specs.Graph.{Graph, limits, ride-limit, own-limits, marked, present, index-of}
+use Rattle.model.specs.Layout.{pair-places, mark-places, listed, counting-graph}
+use Rattle.model.specs.Refusal.{refused-3, first-number, table-cases, cover-short, peel-cases, peel-refusal, own-cover-refusal}
+use Rattle.model.specs.Calls.{QueryOutcome, shown, not-shown, board-query, board-peel, present-cover, board-own-cover}
+use Rattle.model.specs.Demand.{AllOnes, MinimumsAll, IsCoverUnder, IsCore, OwnCoverLaws}
+use Rattle.model.proofs.Cover.{ride-none, ride-own, own-same, own-one, largest-under}
+use Rattle.model.proofs.Peel.{peel-laws}
+use Rattle.model.proofs.Refusal.{peel-lent}
+use Rattle.model.proofs.EndToEnd.{query-shown, peel-is-cover}
+use Rattle.model.proofs.PresentCover.{present-cover-same, query-cover, call-code, code-number, call-under, call-refused, call-behind, call-answer}
+
+module _ (h : Head) (operators rides presence minimums : List ℕ) (α β : ℕ) (marks : List ℕ) where
+  abbrev number : ℕ
+  number = own-cover-refusal h operators rides presence minimums marks
+
+  abbrev outcome : QueryOutcome
+  outcome = board-own-cover h operators rides presence minimums α β marks
+
+  abbrev limit : ℕ → ℕ
+  limit = own-limits (h .operators) minimums α β
+
+  abbrev g : Graph
+  g = counting-graph h operators rides presence
+
+  pub own-taken : number ≡ 0 → outcome ≡ shown h (present-cover h operators rides presence limit) marks
+  unfolding board-own-cover
+  own-taken e = rw (e, board-own-cover)
+
+  pub own-refused : (k : ℕ) → number ≡ suc k → outcome ≡ not-shown (suc k) marks
+  unfolding board-own-cover
+  own-refused k e = rw (e, board-own-cover)
+
+  pub own-code : (k : ℕ) → number ≡ k → outcome .answer .code ≡ k
+  own-code = call-code h operators rides presence limit marks number outcome own-taken own-refused
+
+  number-of : outcome .answer .code ≡ 0 → number ≡ 0
+  number-of = code-number h operators rides presence limit marks number outcome own-taken own-refused 0
+
+  under : outcome .answer .code ≡ 0 → IsCoverUnder g (present presence) limit outcome
+  under e = call-under h operators rides presence limit marks number outcome own-taken own-refused (number-of e)
+
+  -- where every ride has the limit b, it is the core for (α, b)
+  one-core : (b : ℕ) → ((v : ℕ) → v < h .rides → ride-limit minimums β v ≡ b) → outcome .answer .code ≡ 0 → IsCore g (present presence) α b outcome
+  one-core b one e =
+      let c = under e in
+      record {
+        code = c .code;
+        largest = largest-under g limit (limits (h .operators) α b) (own-one (h .operators) (h .rides) minimums α β b one) (present presence) (marked (outcome .marks)) (c .largest);
+        operators = c .operators;
+        rides = c .rides;
+      }
+
+  peeled-same : (start : List ℕ) (allowed : ℕ) → outcome .answer .code ≡ 0 → peel-refusal h operators rides presence minimums start ≡ 0 → AllOnes g start → board-peel h operators rides presence minimums start α β allowed .answer .settled ≡ 1 → (x : ℕ) → x < mark-places h → marked (board-peel h operators rides presence minimums start α β allowed .marks) x ≡ marked (outcome .marks) x
+  peeled-same start allowed e none ones done =
+      let p = peel-is-cover h operators rides presence minimums start α β allowed none ones .own in
+      peel-laws .only g limit (present presence) (marked (board-peel h operators rides presence minimums start α β allowed .marks)) (marked (outcome .marks)) (p .largest done) (under e .largest)
+
+  queried-same : (more : List ℕ) → MinimumsAll h minimums 0 → outcome .answer .code ≡ 0 → board-query h (index-of g ++ more) presence α β marks ≡ outcome
+  unfolding own-cover-refusal
+  queried-same more zeros e =
+      let lent = peel-lent h operators rides presence minimums marks [] (number-of e) .0 in
+      query-shown h (listed (h .pairs) operators rides) presence more α β marks (lent .few-operators) (lent .few-rides) (lent .presence-long) (lent .marks-long) ∙
+      ap (λ (s : List ℕ). shown h s marks) (query-cover h operators rides presence α β ∙ sym (present-cover-same h operators rides presence limit (limits (h .operators) α β) (own-one (h .operators) (h .rides) minimums α β β (λ v l. ride-none minimums β v (zeros v l))))) ∙
+      sym (own-taken (number-of e))
+
+-- words behind the rides' minimums change nothing
+behind-same : (h : Head) (operators rides presence minimums : List ℕ) (α β : ℕ) (marks more : List ℕ) → board-own-cover h operators rides presence minimums α β marks .answer .code ≡ 0 → board-own-cover h operators rides presence (minimums ++ more) α β marks ≡ board-own-cover h operators rides presence minimums α β marks
+unfolding own-cover-refusal
+behind-same h operators rides presence minimums α β marks more e =
+    let none = number-of h operators rides presence minimums α β marks e in
+    let long = peel-lent h operators rides presence minimums marks [] none .1 in
+    let s : Bool = cover-short h operators rides presence marks in
+    let more-long : ltb (length (minimums ++ more)) (h .rides) ≡ ltb (length minimums) (h .rides) = le-ltb (length (minimums ++ more)) (h .rides) (omega (arith, length-append minimums more)) ∙ sym (le-ltb (length minimums) (h .rides) long) in
+    let same-limits : (v : ℕ) → v < h .rides → ride-limit (minimums ++ more) β v ≡ ride-limit minimums β v = λ v l. ap (λ (m : ℕ). elim (eqb m 0) [ true ↦ β | false ↦ m ]) (List·getD-append minimums more 0 v (omega arith)) in
+    own-taken h operators rides presence (minimums ++ more) α β marks (ap (λ (b : Bool). first-number (table-cases h (s || b) operators rides)) more-long ∙ none) ∙
+    ap (λ (c : List ℕ). shown h c marks) (present-cover-same h operators rides presence (own-limits (h .operators) (minimums ++ more) α β) (own-limits (h .operators) minimums α β) (own-same (h .operators) (h .rides) (minimums ++ more) minimums α β β same-limits)) ∙
+    sym (own-taken h operators rides presence minimums α β marks none)
+
+-- of the marks that come in the number looks at the length alone
+number-length : (h : Head) (operators rides presence minimums marks other : List ℕ) → length other ≡ length marks → own-cover-refusal h operators rides presence minimums other ≡ own-cover-refusal h operators rides presence minimums marks
+unfolding own-cover-refusal
+number-length h operators rides presence minimums marks other e =
+    let o : Bool = refused-3 (pair-places h) operators || refused-3 (pair-places h) rides || refused-3 (mark-places h) presence in
+    ap (λ (n : ℕ). first-number (table-cases h (o || ltb n (mark-places h) || refused-3 (h .rides) minimums) operators rides)) e
+
+any-marks : (h : Head) (operators rides presence minimums : List ℕ) (α β : ℕ) (marks other : List ℕ) → length other ≡ length marks → board-own-cover h operators rides presence minimums α β other .answer ≡ board-own-cover h operators rides presence minimums α β marks .answer
+any-marks h operators rides presence minimums α β marks other e =
+    let limit : ℕ → ℕ = own-limits (h .operators) minimums α β in
+    let number : List ℕ → ℕ = own-cover-refusal h operators rides presence minimums in
+    let taken = own-taken h operators rides presence minimums α β in
+    let refused = own-refused h operators rides presence minimums α β in
+    call-answer h operators rides presence limit other (number other) (board-own-cover h operators rides presence minimums α β other) (taken other) (refused other) _ (number-length h operators rides presence minimums marks other e) ∙
+    sym (call-answer h operators rides presence limit marks (number marks) (board-own-cover h operators rides presence minimums α β marks) (taken marks) (refused marks) _ refl)
+
+pub own-cover-laws : (h : Head) (operators rides presence minimums : List ℕ) (α β : ℕ) (marks : List ℕ) → OwnCoverLaws h operators rides presence minimums α β marks
+unfolding own-cover-refusal
+own-cover-laws h operators rides presence minimums α β marks =
+    let limit : ℕ → ℕ = own-limits (h .operators) minimums α β in
+    let number : ℕ = own-cover-refusal h operators rides presence minimums marks in
+    let outcome : QueryOutcome = board-own-cover h operators rides presence minimums α β marks in
+    let taken = own-taken h operators rides presence minimums α β marks in
+    let refused = own-refused h operators rides presence minimums α β marks in
+    let by-refusal = call-refused h operators rides presence limit marks number outcome taken refused in
+    record {
+      number = own-code h operators rides presence minimums α β marks _ refl;
+      own = under h operators rides presence minimums α β marks;
+      as-peel = peeled-same h operators rides presence minimums α β marks;
+      all-equal = λ m l all. one-core h operators rides presence minimums α β marks m (λ v k. ride-own minimums β v m l (all v k));
+      all-zero = λ all. one-core h operators rides presence minimums α β marks β (λ v k. ride-none minimums β v (all v k));
+      as-query = queried-same h operators rides presence minimums α β marks;
+      kept = λ n. by-refusal (λ (o : QueryOutcome). o .marks ≡ marks) n (λ k. refl);
+      no-operators = λ n. by-refusal (λ (o : QueryOutcome). o .answer .operators ≡ 0) n (λ k. refl);
+      no-rides = λ n. by-refusal (λ (o : QueryOutcome). o .answer .rides ≡ 0) n (λ k. refl);
+      behind = call-behind h operators rides presence limit marks number outcome taken refused;
+      any-answer = any-marks h operators rides presence minimums α β marks;
+      any-behind = behind-same h operators rides presence minimums α β marks;
+    }

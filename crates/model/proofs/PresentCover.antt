@@ -1,0 +1,112 @@
+-- The cover of those present under a limit for each node, and what a call gives that shows it or is refused. Assumes nothing.
+use mathlib.Core.Path.{_≡_, refl, sym, ap, _∙_, subst}
+use mathlib.Core.Logic.{_≢_}
+use mathlib.Core.Bool.{true, false}
+use mathlib.Core.List.{List}
+use Prim.Native.Nat.{ℕ, zero, suc, _+_, _≤_, _<_}
+use native.Mathlib.Omega.{arith}
+use lib.ListN.{length, getD, drop}
+use lib.Seq.{drop-at}
+use Rattle.model.specs.declared.Head.{Head}
+use Rattle.model.specs.declared.Counts.{Counts}
+use Rattle.model.specs.Count.{bit}
+use Rattle.model.specs.Graph.{Graph, nodes, Largest, everybody, limits, marked, present, raised, cover-under, index-of}
+use Rattle.model.specs.Layout.{mark-places, listed, counting-graph}
+use Rattle.model.specs.Calls.{QueryOutcome, query-marks, counts, shown, not-shown, present-limits, present-cover}
+use Rattle.model.specs.Demand.{IsCoverUnder}
+use Rattle.model.proofs.Count.{bit-le, length-values, getD-values}
+use Rattle.model.proofs.Cover.{under-length, under-bits, under-same, cover-under-laws}
+use Rattle.model.proofs.Presence.{largest-inside, inside-largest}
+use Rattle.model.proofs.Query.{query-in, query-is-core}
+use Rattle.model.proofs.EndToEnd.{shown-under}
+
+-- ---- the cover of those present
+
+module _ (h : Head) (operators rides presence : List ℕ) (limit : ℕ → ℕ) where
+  abbrev g : Graph
+  g = counting-graph h operators rides presence
+
+  abbrev found : List ℕ
+  found = present-cover h operators rides presence limit
+
+  pub present-cover-length : length found ≡ mark-places h
+  unfolding present-cover
+  present-cover-length = under-length g (present-limits h presence limit)
+
+  pub present-cover-bits : (x : ℕ) → x < mark-places h → getD found x 0 ≤ 1
+  unfolding present-cover
+  present-cover-bits = under-bits g (present-limits h presence limit)
+
+  -- under a list of limits, of which those of nodes alone matter
+  pub present-cover-under : (list : ℕ → ℕ) → ((x : ℕ) → x < mark-places h → list x ≡ present-limits h presence limit x) → cover-under g list ≡ found
+  unfolding present-cover
+  present-cover-under list = under-same g list (present-limits h presence limit)
+
+  pub present-cover-largest : Largest g limit (present presence) (marked found)
+  unfolding present-cover
+  present-cover-largest = largest-inside g (present presence) limit everybody (marked found) (cover-under-laws .largest g (present-limits h presence limit))
+
+-- limits that are the same for every node have the same cover
+pub present-cover-same : (h : Head) (operators rides presence : List ℕ) (limit limit′ : ℕ → ℕ) → ((x : ℕ) → x < mark-places h → limit x ≡ limit′ x) → present-cover h operators rides presence limit ≡ present-cover h operators rides presence limit′
+unfolding present-cover raised
+present-cover-same h operators rides presence limit limit′ same =
+    under-same (counting-graph h operators rides presence) (present-limits h presence limit) (present-limits h presence limit′)
+    (λ x l. λ i. elim (present presence x) [ true ↦ same x l i | false ↦ suc (mark-places h) ])
+
+-- a query for (α, β), on an index of the same pairs, marks the cover (α, β)
+pub query-cover : (h : Head) (operators rides presence : List ℕ) (α β : ℕ) → query-marks h (index-of (counting-graph h operators rides presence)) presence α β ≡ present-cover h operators rides presence (limits (h .operators) α β)
+unfolding query-marks present-cover
+query-cover h operators rides presence α β =
+    let g : Graph = counting-graph h operators rides presence in
+    cover-under-laws .only g (present-limits h presence (limits (h .operators) α β)) (query-marks h (index-of g) presence α β)
+    (length-values (λ (x : ℕ). bit (query-in h (index-of g) presence α β x)) (mark-places h))
+    (λ x l. omega (arith, getD-values (λ (y : ℕ). bit (query-in h (index-of g) presence α β y)) (mark-places h) x 0 l, bit-le (query-in h (index-of g) presence α β x)))
+    (inside-largest g (present presence) (limits (h .operators) α β) everybody (marked (query-marks h (index-of g) presence α β)) (query-is-core h (listed (h .pairs) operators rides) presence α β))
+
+-- ---- a call that shows it, or is refused
+
+module _ (h : Head) (operators rides presence : List ℕ) (limit : ℕ → ℕ) (marks : List ℕ) (number : ℕ) (outcome : QueryOutcome) (taken : number ≡ 0 → outcome ≡ shown h (present-cover h operators rides presence limit) marks) (refused : (k : ℕ) → number ≡ suc k → outcome ≡ not-shown (suc k) marks) where
+  abbrev cover : List ℕ
+  cover = present-cover h operators rides presence limit
+
+  pub call-code : (k : ℕ) → number ≡ k → outcome .answer .code ≡ k
+  unfolding counts
+  call-code zero e = ap (λ (o : QueryOutcome). o .answer .code) (taken e)
+  call-code (suc k) e = ap (λ (o : QueryOutcome). o .answer .code) (refused k e)
+
+  pub code-number : (k : ℕ) → outcome .answer .code ≡ k → number ≡ k
+  code-number k e = sym (call-code number refl) ∙ e
+
+  -- not refused, it is the largest set under these limits
+  pub call-under : number ≡ 0 → IsCoverUnder (counting-graph h operators rides presence) (present presence) limit outcome
+  call-under e =
+      let g : Graph = counting-graph h operators rides presence in
+      subst (IsCoverUnder g (present presence) limit) (sym (taken e))
+      (shown-under h (g .cleared) (present presence) limit cover marks (present-cover-length h operators rides presence limit) (present-cover-largest h operators rides presence limit))
+
+  -- what a refusal leaves
+  pub call-refused : (P : QueryOutcome → Type 0) → outcome .answer .code ≢ 0 → ((k : ℕ) → P (not-shown (suc k) marks)) → P outcome
+  call-refused P n f = go number refl
+    where
+      go : (k : ℕ) → number ≡ k → P outcome
+      go zero e = absurd (n (call-code 0 e))
+      go (suc k) e = subst P (sym (refused k e)) (f k)
+
+  -- places past the nodes stay
+  pub call-behind : drop (mark-places h) (outcome .marks) ≡ drop (mark-places h) marks
+  call-behind = go number refl
+    where
+      go : (k : ℕ) → number ≡ k → drop (mark-places h) (outcome .marks) ≡ drop (mark-places h) marks
+      go zero e =
+          let l = present-cover-length h operators rides presence limit in
+          ap (λ (o : QueryOutcome). drop (mark-places h) (o .marks)) (taken e) ∙ drop-at cover (drop (length cover) marks) (mark-places h) l ∙ ap (λ (k : ℕ). drop k marks) l
+      go (suc k) e = ap (λ (o : QueryOutcome). drop (mark-places h) (o .marks)) (refused k e)
+
+  -- the answer follows from the number
+  abbrev pub answer-by : ℕ → Counts
+  answer-by zero = counts h cover
+  answer-by (suc k) = record { code = suc k; operators = 0; rides = 0 }
+
+  pub call-answer : (k : ℕ) → number ≡ k → outcome .answer ≡ answer-by k
+  call-answer zero e = ap (λ (o : QueryOutcome). o .answer) (taken e)
+  call-answer (suc k) e = ap (λ (o : QueryOutcome). o .answer) (refused k e)
