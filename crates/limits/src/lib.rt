@@ -1,7 +1,7 @@
 // The limits of a peel or a cover: one word for each node, as marks lie, operators first and then rides; and the limits of those marked in bytes.
 ghost use mathlib.Core.Path.{_≡_};
 ghost use mathlib.Core.Bool.{true, false};
-ghost use Prim.Native.Nat.{ℕ, _+_, _≤_, _<_, min};
+ghost use Prim.Native.Nat.{ℕ, _+_, _-_, _≤_, _<_, min};
 ghost use lib.Dec.{eqb, ltb};
 ghost use lib.ListN.{length, getD};
 ghost use Rattle.model.specs.Count.{bit};
@@ -50,13 +50,14 @@ fn fill_rides(
     rides: usize,
 )
     requires { ⌜
-        (operators ≤ 200) × (rides ≤ 60) × (operators + rides ≤ length (now presence)) × (rides ≤ length (now minimums)) × (operators + rides ≤ length (now limits))
+        (operators ≤ 200) × (rides ≤ 60) × (operators + rides ≤ length (now presence)) × (rides ≤ length (now minimums)) ×
+        (operators + rides ≤ length (now limits))
         ⌝ }
     ensures { λ _. ⌜
         ((x : ℕ) → x < operators → limit-of (now (limits .exit)) x ≡ limit-of (now (limits .entry)) x) ×
-        ((v : ℕ) → v < rides →
-        limit-of (now (limits .exit)) (operators + v)
-        ≡ elim (present (now (presence .entry)) (operators + v)) [ true ↦ ride-limit (now (minimums .entry)) beta v | false ↦ high ])
+        ((x : ℕ) → operators ≤ x → x < operators + rides →
+        limit-of (now (limits .exit)) x
+        ≡ elim (present (now (presence .entry)) x) [ true ↦ ride-limit (now (minimums .entry)) beta (x - operators) | false ↦ high ])
         ⌝ }
 {
     let mut v = 0;

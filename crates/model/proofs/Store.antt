@@ -21,6 +21,14 @@ module _ (f : ℕ → ℕ) (l₀ l : List ℕ) (i v : ℕ) (fits : i < length l)
   pub left-alone : ((k : ℕ) → i ≤ k → getD l k 0 ≡ getD l₀ k 0) → (k : ℕ) → i + 1 ≤ k → getD (set l i v) k 0 ≡ getD l₀ k 0
   left-alone rest k h = getD-set-other l i k v 0 (omega arith) ∙ rest k (omega arith)
 
+-- a loop stores f 0, f 1, .. from the place n on
+pub stored-from : (f : ℕ → ℕ) (l : List ℕ) (n i v : ℕ) → n + i < length l → v ≡ f i → ((k : ℕ) → k < i → getD l (n + k) 0 ≡ f k) → (k : ℕ) → k < i + 1 → getD (set l (n + i) v) (n + k) 0 ≡ f k
+stored-from f l n i v fits value done k h =
+    elim (decLt k i) [
+      | yes b ↦ getD-set-other l (n + i) (n + k) v 0 (omega arith) ∙ done k b
+      | no b ↦ (let e : k ≡ i = omega arith in rw e (getD-set-same l (n + i) v 0 fits ∙ value))
+    ]
+
 -- the first n of a list, as code lends them
 module _ (l : List ℕ) (n : ℕ) (h : n ≤ length l) where
   pub first-length : length (take (n - 0) l) ≡ n

@@ -6,18 +6,15 @@ use Prim.Native.Nat.{ℕ, suc}
 use native.Mathlib.Omega.{arith}
 use native.Mathlib.Decide.{decLt}
 use Rattle.model.specs.Graph.{raised}
-use Rattle.model.proofs.Cover.{limits-operator, limits-ride}
+use Rattle.model.proofs.Cover.{own-operator, own-ride}
 use Rattle.limits.proofs.fill.Statement.{statement}
 use Rattle.limits.proofs.fill.Tie as tie
 
 cast-n : tie.Need-cast-n
 cast-n c = search needs
 
-cast-w : tie.Need-cast-w
-cast-w c = search needs
-
-add-w : tie.Need-add-w
-add-w c = search needs
+cast-m : tie.Need-cast-m
+cast-m c = search needs
 
 add-high : tie.Need-add-high
 add-high c = search needs
@@ -25,11 +22,11 @@ add-high c = search needs
 add-high-2 : tie.Need-add-high-2
 add-high-2 c = search needs
 
-fill-side-requires : tie.Need-fill-side-requires
-fill-side-requires c κs = search needs
+fill-operators-requires : tie.Need-fill-operators-requires
+fill-operators-requires c κs = search needs
 
-fill-side-requires-2 : tie.Need-fill-side-requires-2
-fill-side-requires-2 c κs = search needs
+fill-rides-requires : tie.Need-fill-rides-requires
+fill-rides-requires c κs = search needs
 
 same-length : tie.Need-same-length
 same-length c = search needs
@@ -41,12 +38,15 @@ side n here limit x own high e f = λ i. elim (here x) [ true ↦ e i | false �
 
 returns : tie.Need-returns
 returns c = λ x h.
-    let a = c .before .before .before .before .before .before .before .before .before .before .before .before .before .args in
-    let first = c .before .before .before .before .before .before .fill-side .ensures in
-    let second = c .before .before .fill-side2 .ensures in
-    elim (decLt x (a .head .operators)) [
-      | yes l ↦ second .0 x (omega arith) ∙ first .1 x (omega arith) (omega arith) ∙ side _ _ _ x _ _ (sym (limits-operator _ (a .alpha) (a .beta) x l)) (omega arith)
-      | no l ↦ second .1 x (omega arith) (omega arith) ∙ side _ _ _ x _ _ (sym (limits-ride _ (a .alpha) (a .beta) x (omega arith))) (omega arith)
+    let a = c .before .before .before .before .before .before .before .before .before .before .before .before .before .before .args in
+    let first = c .before .before .before .before .before .before .fill-operators .ensures in
+    let second = c .before .before .fill-rides .ensures in
+    let n : ℕ = a .head .operators in
+    elim (decLt x n) [
+      | yes l ↦ second .0 x l ∙ first x l ∙ side _ _ _ x _ _ (sym (own-operator n (a .minimums .now) (a .alpha) (a .beta) x l)) (omega arith)
+      | no l ↦
+          second .1 x (omega arith) h ∙
+          side _ _ _ x _ _ (sym (own-ride n (a .minimums .now) (a .alpha) (a .beta) x (omega arith))) (omega arith)
     ]
 
 pub fill-spec : {M : Type 1} → statement M
@@ -54,11 +54,10 @@ fill-spec =
     tie.close
     (tie.spec
     cast-n
-    cast-w
-    add-w
+    cast-m
     add-high
     add-high-2
-    fill-side-requires
-    fill-side-requires-2
+    fill-operators-requires
+    fill-rides-requires
     same-length
     returns)
