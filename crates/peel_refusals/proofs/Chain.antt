@@ -1,4 +1,4 @@
--- The numbers of a peel, test by test: 3, and 12 behind those of a pair table. Assumes nothing.
+-- The numbers of a cover and a peel, test by test: 3, and 12 behind those of a pair table. Assumes nothing.
 use mathlib.Core.Path.{_≡_, sym, ap, _∙_, subst}
 use mathlib.Core.Logic.{_≢_}
 use mathlib.Core.Bool.{Bool, true, false, _||_}
@@ -11,35 +11,28 @@ use lib.ListN.{length, getD}
 use Rattle.model.specs.declared.Head.{Head}
 use Rattle.model.specs.Count.{some}
 use Rattle.model.specs.Layout.{pair-places, mark-places}
-use Rattle.model.specs.Refusal.{refused-3, refused-12, first-number, table-cases, peel-cases, peel-refusal}
+use Rattle.model.specs.Refusal.{refused-3, refused-12, first-number, table-cases, cover-short, peel-cases, peel-refusal}
 use Rattle.model.proofs.Count.{test-true, test-false, some-holds, some-witness, or-left, or-right}
 use Rattle.model.proofs.Chain.{first-nil, first-here, first-skip, enough, not-less}
-use Rattle.model.proofs.Refusal.{PeelLent}
+use Rattle.model.proofs.Refusal.{CoverLent, peel-lent}
 use Rattle.pairs.specs.Accepted.{AcceptedPairs}
-use Rattle.refusals.proofs.Chain.{table-first, table-rest, table-long}
+use Rattle.refusals.proofs.Chain.{table-first, table-rest}
 
--- ---- peel
+-- ---- cover and peel
 
--- 3 of a peel
-abbrev pub short-parts : Head → List ℕ → List ℕ → List ℕ → List ℕ → Bool
-short-parts h operators rides presence marks =
-    refused-3 (pair-places h) operators || refused-3 (pair-places h) rides || refused-3 (mark-places h) presence || refused-3 (mark-places h) marks
-
--- the parts that a peel is lent, where none is too short
-pub peel-long : (h : Head) (operators rides presence marks : List ℕ) → (T (short-parts h operators rides presence marks) → ⊥) → (pair-places h ≤ length operators) × (pair-places h ≤ length rides) × (mark-places h ≤ length presence) × (mark-places h ≤ length marks)
-peel-long h operators rides presence marks n =
+-- the parts that a cover is lent, where none is too short
+pub cover-long : (h : Head) (operators rides presence marks : List ℕ) → (T (cover-short h operators rides presence marks) → ⊥) → (pair-places h ≤ length operators) × (pair-places h ≤ length rides)
+cover-long h operators rides presence marks n =
     let o : Bool = refused-3 (pair-places h) operators in
     let r : Bool = refused-3 (pair-places h) rides in
     let p : Bool = refused-3 (mark-places h) presence in
     let m : Bool = refused-3 (mark-places h) marks in (
       enough (length operators) (pair-places h) (λ t. n (or-left (o || r || p) m (or-left (o || r) p (or-left o r t)))),
       enough (length rides) (pair-places h) (λ t. n (or-left (o || r || p) m (or-left (o || r) p (or-right o r t)))),
-      enough (length presence) (mark-places h) (λ t. n (or-left (o || r || p) m (or-right (o || r) p t))),
-      enough (length marks) (mark-places h) (λ t. n (or-right (o || r || p) m t)),
     )
 
--- the pairs that a peel is lent, where 1 to 5 don't apply
-pub lent-pairs : (h : Head) (operators rides presence marks : List ℕ) → PeelLent h operators rides presence marks → AcceptedPairs h operators rides
+-- the pairs that a cover or a peel is lent, where 1 to 5 don't apply
+pub lent-pairs : (h : Head) (operators rides presence marks : List ℕ) → CoverLent h operators rides presence marks → AcceptedPairs h operators rides
 lent-pairs h operators rides presence marks l =
     record {
       few-operators = l .few-operators;
@@ -49,50 +42,62 @@ lent-pairs h operators rides presence marks l =
       ordered = l .ordered;
     }
 
--- what `short_peel` and `table_number` give
-pub lent-table : (h : Head) (operators rides presence marks : List ℕ) (short : Bool) → short ≡ short-parts h operators rides presence marks → (k : ℕ) → k ≡ first-number (table-cases h short operators rides) → k ≡ first-number (peel-cases h operators rides presence marks)
-lent-table h operators rides presence marks short s k t = t ∙ ap (λ (b : Bool). first-number (table-cases h b operators rides)) s
+module _ (h : Head) (operators rides presence minimums marks : List ℕ) where
+  -- 3 of a peel
+  abbrev short-parts : Bool
+  short-parts = cover-short h operators rides presence marks || refused-3 (h .rides) minimums
 
--- what `lent_number` gives
-module _ (h : Head) (operators rides presence marks : List ℕ) (k : ℕ) (table : k ≡ first-number (peel-cases h operators rides presence marks)) where
-  abbrev behind : List (ℕ × Bool)
-  behind = (12, refused-12 h marks) ∷ []
+  -- what `short_peel` gives, by what `short_cover` does
+  pub short-cover : cover-short h operators rides presence marks ≡ true → true ≡ short-parts
+  short-cover e = rw e
 
-  pub peel-table : k ≢ 0 → k ≡ peel-refusal h operators rides presence marks
-  unfolding peel-refusal
-  peel-table n = table-first h (short-parts h operators rides presence marks) operators rides behind k table n
+  pub long-cover : cover-short h operators rides presence marks ≡ false → refused-3 (h .rides) minimums ≡ short-parts
+  long-cover e = rw e
 
-  module _ (z : k ≡ 0) where
-    last : first-number behind ≡ peel-refusal h operators rides presence marks
+  -- what `short_peel` and `table_number` give
+  pub lent-table : (short : Bool) → short ≡ short-parts → (k : ℕ) → k ≡ first-number (table-cases h short operators rides) → k ≡ first-number (peel-cases h operators rides presence minimums marks)
+  lent-table short s k t = t ∙ ap (λ (b : Bool). first-number (table-cases h b operators rides)) s
+
+  -- what `lent_number` gives
+  module _ (k : ℕ) (table : k ≡ first-number (peel-cases h operators rides presence minimums marks)) where
+    abbrev behind : List (ℕ × Bool)
+    behind = (12, refused-12 h marks) ∷ []
+
+    pub peel-table : k ≢ 0 → k ≡ peel-refusal h operators rides presence minimums marks
     unfolding peel-refusal
-    last = table-rest h (short-parts h operators rides presence marks) operators rides behind k table z
+    peel-table n = table-first h short-parts operators rides behind k table n
 
-    pub peel-12 : refused-12 h marks ≡ true → 12 ≡ peel-refusal h operators rides presence marks
-    peel-12 b = sym (first-here 12 (refused-12 h marks) [] (subst T (sym b) tt)) ∙ last
+    module _ (z : k ≡ 0) where
+      last : first-number behind ≡ peel-refusal h operators rides presence minimums marks
+      unfolding peel-refusal
+      last = table-rest h short-parts operators rides behind k table z
 
-    pub peel-0 : refused-12 h marks ≡ false → 0 ≡ peel-refusal h operators rides presence marks
-    peel-0 b = sym (first-skip 12 (refused-12 h marks) [] (λ x. subst T b x) ∙ first-nil) ∙ last
+      pub peel-12 : refused-12 h marks ≡ true → 12 ≡ peel-refusal h operators rides presence minimums marks
+      peel-12 b = sym (first-here 12 (refused-12 h marks) [] (subst T (sym b) tt)) ∙ last
 
-    -- the marks are long enough
-    pub marks-long : mark-places h ≤ length marks
-    marks-long = peel-long h operators rides presence marks (table-long h (short-parts h operators rides presence marks) operators rides [] (sym table ∙ z)) .3
+      pub peel-0 : refused-12 h marks ≡ false → 0 ≡ peel-refusal h operators rides presence minimums marks
+      peel-0 b = sym (first-skip 12 (refused-12 h marks) [] (λ x. subst T b x) ∙ first-nil) ∙ last
 
--- ---- 3 and 12 of a peel
+      -- the marks are long enough
+      pub marks-long : mark-places h ≤ length marks
+      marks-long = peel-lent h operators rides presence minimums marks [] (sym table ∙ z) .0 .marks-long
+
+-- ---- 3 of a cover, and 12 of a peel
 
 module _ (h : Head) (operators rides presence marks : List ℕ) where
-  pub peel-operators : length operators < pair-places h → true ≡ short-parts h operators rides presence marks
-  peel-operators l = rw (lt-ltb (length operators) (pair-places h) l)
+  pub cover-operators : length operators < pair-places h → true ≡ cover-short h operators rides presence marks
+  cover-operators l = rw (lt-ltb (length operators) (pair-places h) l)
 
-  pub peel-rides : pair-places h ≤ length operators → length rides < pair-places h → true ≡ short-parts h operators rides presence marks
-  peel-rides k l = rw (le-ltb (length operators) (pair-places h) k, lt-ltb (length rides) (pair-places h) l)
+  pub cover-rides : pair-places h ≤ length operators → length rides < pair-places h → true ≡ cover-short h operators rides presence marks
+  cover-rides k l = rw (le-ltb (length operators) (pair-places h) k, lt-ltb (length rides) (pair-places h) l)
 
   module _ (k : pair-places h ≤ length operators) (l : pair-places h ≤ length rides) where
-    pub peel-presence : length presence < mark-places h → true ≡ short-parts h operators rides presence marks
-    peel-presence p =
+    pub cover-presence : length presence < mark-places h → true ≡ cover-short h operators rides presence marks
+    cover-presence p =
         rw (le-ltb (length operators) (pair-places h) k, le-ltb (length rides) (pair-places h) l, lt-ltb (length presence) (mark-places h) p)
 
-    pub peel-marks : mark-places h ≤ length presence → ltb (length marks) (mark-places h) ≡ short-parts h operators rides presence marks
-    peel-marks p =
+    pub cover-marks : mark-places h ≤ length presence → ltb (length marks) (mark-places h) ≡ cover-short h operators rides presence marks
+    cover-marks p =
         rw (le-ltb (length operators) (pair-places h) k, le-ltb (length rides) (pair-places h) l, le-ltb (length presence) (mark-places h) p)
 
 module _ (h : Head) (marks : List ℕ) where

@@ -3,12 +3,31 @@ ghost use mathlib.Core.Path.{_≡_};
 ghost use mathlib.Core.Bool.{_||_};
 ghost use Prim.Native.Nat.{_≤_};
 ghost use lib.ListN.{length};
-ghost use Rattle.model.specs.Layout.{pair-places, mark-places};
+ghost use Rattle.model.specs.Layout.{mark-places};
 ghost use Rattle.model.specs.Refusal.{refused-3, refused-12, first-number, cover-short, peel-cases, peel-refusal};
 use model::Head;
 use refusals::table_number;
 
-// Whether a pair array is shorter than operators × rides, the presence words or the marks than operators + rides, or the minimums than rides.
+// Whether a pair array is shorter than operators × rides, or the presence words or the marks than operators + rides.
+fn short_cover(head: Head, operators: &[u16], rides: &[u16], presence: &[u16], marks: &[u16]) -> bool
+    ensures { λ r. ⌜ r ≡ cover-short head (now (operators .entry)) (now (rides .entry)) (now (presence .entry)) (now (marks .entry)) ⌝ }
+{
+    let n = head.operators as usize;
+    let m = head.rides as usize;
+    let places = n * m;
+    if operators.len() < places {
+        return true;
+    }
+    if rides.len() < places {
+        return true;
+    }
+    if presence.len() < n + m {
+        return true;
+    }
+    marks.len() < n + m
+}
+
+// The same, or the minimums shorter than rides.
 fn short_peel(
     head: Head,
     operators: &[u16],
@@ -24,22 +43,10 @@ fn short_peel(
         refused-3 (head .rides) (now (minimums .entry)))
         ⌝ }
 {
-    let n = head.operators as usize;
-    let m = head.rides as usize;
-    let places = n * m;
-    if operators.len() < places {
+    if short_cover(head, operators, rides, presence, marks) {
         return true;
     }
-    if rides.len() < places {
-        return true;
-    }
-    if presence.len() < n + m {
-        return true;
-    }
-    if marks.len() < n + m {
-        return true;
-    }
-    minimums.len() < m
+    minimums.len() < head.rides as usize
 }
 
 // Whether a mark in use is not 0 or 1.

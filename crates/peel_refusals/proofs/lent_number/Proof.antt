@@ -2,7 +2,9 @@
 use borrow.Author.Needs.{needs}
 use mathlib.Core.Path.{sym, _∙_, subst}
 use lib.Dec.{T}
-use Rattle.peel_refusals.proofs.Chain.{peel-long, lent-table}
+use Rattle.model.specs.Refusal.{refused-3, cover-short}
+use Rattle.model.proofs.Count.{or-left}
+use Rattle.peel_refusals.proofs.Chain.{cover-long, lent-table}
 use Rattle.peel_refusals.proofs.lent_number.Statement.{statement}
 use Rattle.peel_refusals.proofs.lent_number.Tie as tie
 
@@ -10,12 +12,12 @@ short-peel-requires : tie.Need-short-peel-requires
 short-peel-requires c κs = search needs
 
 table-number-requires : tie.Need-table-number-requires
-table-number-requires c κs = let a = c .before .before .before .before .before .args in
-    λ e. let l = peel-long (a .head) (a .operators .now) (a .rides .now) (a .presence .now) (a .marks .now) (λ t. subst T (sym (c .short-peel .ensures) ∙ e) t) in (l .0, l .1)
+table-number-requires c κs = let a = c .before .before .before .before .before .before .args in
+    λ e. cover-long (a .head) (a .operators .now) (a .rides .now) (a .presence .now) (a .marks .now) (λ t. subst T (sym (c .short-peel .ensures) ∙ e) (or-left (cover-short (a .head) (a .operators .now) (a .rides .now) (a .presence .now) (a .marks .now)) (refused-3 (a .head .rides) (a .minimums .now)) t))
 
 returns : tie.Need-returns
-returns c = let a = c .before .before .before .before .before .before .args in
-    lent-table (a .head) (a .operators .now) (a .rides .now) (a .presence .now) (a .marks .now) _ (c .before .short-peel .ensures) _ (c .table-number .ensures)
+returns c = let a = c .before .before .before .before .before .before .before .args in
+    lent-table (a .head) (a .operators .now) (a .rides .now) (a .presence .now) (a .minimums .now) (a .marks .now) _ (c .before .short-peel .ensures) _ (c .table-number .ensures)
 
 pub lent-number-spec : {M : Type 1} → statement M
 lent-number-spec = tie.close (tie.spec short-peel-requires table-number-requires returns)

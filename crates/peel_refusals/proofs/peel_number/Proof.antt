@@ -10,20 +10,20 @@ lent-number-requires : tie.Need-lent-number-requires
 lent-number-requires c κs = search needs
 
 returns : tie.Need-returns
-returns c = let a = c .before .before .before .before .before .before .args in
-    peel-table (a .head) (a .operators .now) (a .rides .now) (a .presence .now) (a .marks .now) _ (c .before .lent-number .ensures) (omega arith)
+returns c = let a = c .before .before .before .before .before .before .before .args in
+    peel-table (a .head) (a .operators .now) (a .rides .now) (a .presence .now) (a .minimums .now) (a .marks .now) _ (c .before .lent-number .ensures) (omega arith)
 
 bad-marks-requires : tie.Need-bad-marks-requires
-bad-marks-requires c κs = let a = c .before .before .before .before .before .before .args in
-    marks-long (a .head) (a .operators .now) (a .rides .now) (a .presence .now) (a .marks .now) _ (c .before .lent-number .ensures) (omega arith)
+bad-marks-requires c κs = let a = c .before .before .before .before .before .before .before .args in
+    marks-long (a .head) (a .operators .now) (a .rides .now) (a .presence .now) (a .minimums .now) (a .marks .now) _ (c .before .lent-number .ensures) (omega arith)
 
 returns-2 : tie.Need-returns-2
-returns-2 c = let a = c .before .before .before .before .before .before .before .before .args in
-    peel-12 (a .head) (a .operators .now) (a .rides .now) (a .presence .now) (a .marks .now) _ (c .before .before .before .lent-number .ensures) (omega arith) (sym (c .before .bad-marks .ensures) ∙ c .if2 .taken)
+returns-2 c = let a = c .before .before .before .before .before .before .before .before .before .args in
+    peel-12 (a .head) (a .operators .now) (a .rides .now) (a .presence .now) (a .minimums .now) (a .marks .now) _ (c .before .before .before .lent-number .ensures) (omega arith) (sym (c .before .bad-marks .ensures) ∙ c .if2 .taken)
 
 returns-3 : tie.Need-returns-3
-returns-3 c = let a = c .before .before .before .before .before .before .before .before .args in
-    peel-0 (a .head) (a .operators .now) (a .rides .now) (a .presence .now) (a .marks .now) _ (c .before .before .before .lent-number .ensures) (omega arith) (sym (c .before .bad-marks .ensures) ∙ c .if2 .left)
+returns-3 c = let a = c .before .before .before .before .before .before .before .before .before .args in
+    peel-0 (a .head) (a .operators .now) (a .rides .now) (a .presence .now) (a .minimums .now) (a .marks .now) _ (c .before .before .before .lent-number .ensures) (omega arith) (sym (c .before .bad-marks .ensures) ∙ c .if2 .left)
 
 pub peel-number-spec : {M : Type 1} → statement M
 peel-number-spec =
