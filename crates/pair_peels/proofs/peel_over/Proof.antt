@@ -20,10 +20,10 @@ fill-requires : tie.Need-fill-requires
 fill-requires c κs = search needs
 
 peel-tables-requires : tie.Need-peel-tables-requires
-peel-tables-requires c κs = let s = c .before .before .before .before .before .before .before .before .before .before .before .before .before .before .before .before .before .before .before .before .before .before .before .before .before in
+peel-tables-requires c κs = let s = c .before .before .before .before .before .before .before .before .before .before .before .before .before .before .before .before .before .before .before .before .before .before .before .before .before .before in
     let a = s .args in
     let read = c .before .before .before .before .before .before .before .before .before .before .before .before .tabulate .ensures _ (c .before .before .before .before .before .before .before .before .before .before .before .before .before .before .before .before .present-and-marked .ensures) in
-    ((_, marked-ready (a .head) (a .operators .now) (a .rides .now) (a .presence .now) (a .marks .now) (s .pre .4) _ _ (read .degrees), read .tables), omega (arith, s .pre .3))
+    ((_, marked-ready (a .head) (a .operators .now) (a .rides .now) (a .presence .now) (a .marks .now) (s .pre .5) _ _ (read .degrees), read .tables), omega (arith, s .pre .4))
 
 same-length : tie.Need-same-length
 same-length c = search needs
@@ -38,10 +38,10 @@ same-length-4 : tie.Need-same-length-4
 same-length-4 c = search needs
 
 returns : tie.Need-returns
-returns c = let s = c .before .before .before .before .before .before .before .before .before .before .before .before .before .before .before .before .before .before .before .before .before .before .before .before .before .before .before .before in
+returns c = let s = c .before .before .before .before .before .before .before .before .before .before .before .before .before .before .before .before .before .before .before .before .before .before .before .before .before .before .before .before .before in
     let a = s .args in
     let read = c .before .before .before .before .before .before .before .before .before .before .before .before .before .before .before .tabulate .ensures _ (c .before .before .before .before .before .before .before .before .before .before .before .before .before .before .before .before .before .before .before .present-and-marked .ensures) in
-    let p = c .before .before .peel-tables .ensures _ (marked-ready (a .head) (a .operators .now) (a .rides .now) (a .presence .now) (a .marks .now) (s .pre .4) _ _ (read .degrees)) (read .tables) in
+    let p = c .before .before .peel-tables .ensures _ (marked-ready (a .head) (a .operators .now) (a .rides .now) (a .presence .now) (a .marks .now) (s .pre .5) _ _ (read .degrees)) (read .tables) in
     let e = marked-peeled (a .head) (a .operators .now) (a .rides .now) (a .presence .now) (a .marks .now) _ _ (c .before .before .before .before .before .before .before .before .before .fill .ensures) (a .steps) in
     record { answer = p .answer ∙ ap (λ (o : PeelOutcome). o .answer) e; marks = p .marks ∙ ap (λ (o : PeelOutcome). o .marks) e }
 

@@ -14,7 +14,7 @@ same-length : tie.Need-same-length
 same-length c = search needs
 
 returns : tie.Need-returns
-returns c = let a = c .before .before .before .before .before .before .before .args in peel-refused (a .head) (a .operators .now) (a .rides .now) (a .presence .now) (a .marks .now) (a .alpha) (a .beta) (a .steps) _ (c .before .peel-number .ensures) (omega arith)
+returns c = let a = c .before .before .before .before .before .before .before .before .args in peel-refused (a .head) (a .operators .now) (a .rides .now) (a .presence .now) (a .minimums .now) (a .marks .now) (a .alpha) (a .beta) (a .steps) _ (c .before .peel-number .ensures) (omega arith)
 
 slice-aggregate-peel-over : tie.Need-slice-aggregate-peel-over
 slice-aggregate-peel-over c = search needs
@@ -26,20 +26,20 @@ slice-aggregate-peel-over-3 : tie.Need-slice-aggregate-peel-over-3
 slice-aggregate-peel-over-3 c = search needs
 
 peel-over-requires : tie.Need-peel-over-requires
-peel-over-requires c κs = let a = c .before .before .before .before .before .before .before .before .before .before .before .args in
+peel-over-requires c κs = let a = c .before .before .before .before .before .before .before .before .before .before .before .before .args in
     let q = c .before .before .before .before .before .peel-number in
     let none = sym (q .ensures) ∙ (let z : q .result ≡ 0 = omega arith in z) in
-    let k = peel-accepted (a .head) (a .operators .now) (a .rides .now) (a .presence .now) (a .marks .now) none in
-    (k .0, k .1, zero-tables, omega (arith, k .0 .few-operators, k .0 .few-rides), k .2)
+    let k = peel-accepted (a .head) (a .operators .now) (a .rides .now) (a .presence .now) (a .minimums .now) (a .marks .now) none in
+    (k .0, k .1, k .2, zero-tables, omega (arith, k .0 .few-operators, k .0 .few-rides), k .3)
 
 same-length-2 : tie.Need-same-length-2
 same-length-2 c = search needs
 
 returns-2 : tie.Need-returns-2
-returns-2 c = let a = c .before .before .before .before .before .before .before .before .before .before .before .before .before .before .before .before .before .args in
+returns-2 c = let a = c .before .before .before .before .before .before .before .before .before .before .before .before .before .before .before .before .before .before .args in
     let q = c .before .before .before .before .before .before .before .before .before .before .before .peel-number in
     let none = sym (q .ensures) ∙ (let z : q .result ≡ 0 = omega arith in z) in
-    peel-done (a .head) (a .operators .now) (a .rides .now) (a .presence .now) (a .marks .now) none (a .alpha) (a .beta) (a .steps) _ _ (c .before .before .before .before .before .peel-over .ensures)
+    peel-done (a .head) (a .operators .now) (a .rides .now) (a .presence .now) (a .minimums .now) (a .marks .now) none (a .alpha) (a .beta) (a .steps) _ _ (c .before .before .before .before .before .peel-over .ensures)
 
 pub peel-spec : {M : Type 1} → statement M
 peel-spec =
