@@ -13,6 +13,7 @@ use Rattle.model.specs.Count.{bit}
 use Rattle.model.specs.Graph.{Graph, nodes, Largest, everybody, limits, marked, present, raised, cover-under, index-of}
 use Rattle.model.specs.Layout.{mark-places, listed, counting-graph}
 use Rattle.model.specs.Calls.{QueryOutcome, query-marks, counts, shown, not-shown, present-limits, present-cover}
+use Rattle.model.specs.Outcome.{queried}
 use Rattle.model.specs.Demand.{IsCoverUnder}
 use Rattle.model.proofs.Count.{bit-le, length-values, getD-values}
 use Rattle.model.proofs.Cover.{under-length, under-bits, under-same, cover-under-laws}
@@ -83,6 +84,11 @@ module _ (h : Head) (operators rides presence : List ℕ) (limit : ℕ → ℕ) 
       let g : Graph = counting-graph h operators rides presence in
       subst (IsCoverUnder g (present presence) limit) (sym (taken e))
       (shown-under h (g .cleared) (present presence) limit cover marks (present-cover-length h operators rides presence limit) (present-cover-largest h operators rides presence limit))
+
+  -- with its number, a refused call leaves the marks
+  pub call-not-shown : (j : ℕ) → j ≢ 0 → number ≡ j → (r : Counts) → r ≡ record { code = j; operators = 0; rides = 0 } → queried r marks ≡ outcome
+  call-not-shown zero n e r is = absurd (n refl)
+  call-not-shown (suc j) n e r is = ap (λ (c : Counts). queried c marks) is ∙ sym (refused j e)
 
   -- what a refusal leaves
   pub call-refused : (P : QueryOutcome → Type 0) → outcome .answer .code ≢ 0 → ((k : ℕ) → P (not-shown (suc k) marks)) → P outcome

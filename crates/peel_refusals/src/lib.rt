@@ -9,7 +9,13 @@ use model::Head;
 use refusals::table_number;
 
 // Whether a pair array is shorter than operators × rides, or the presence words or the marks than operators + rides.
-fn short_cover(head: Head, operators: &[u16], rides: &[u16], presence: &[u16], marks: &[u16]) -> bool
+fn short_cover(
+    head: Head,
+    operators: &[u16],
+    rides: &[u16],
+    presence: &[u16],
+    marks: &[u16],
+) -> bool
     ensures { λ r. ⌜ r ≡ cover-short head (now (operators .entry)) (now (rides .entry)) (now (presence .entry)) (now (marks .entry)) ⌝ }
 {
     let n = head.operators as usize;

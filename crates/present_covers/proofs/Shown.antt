@@ -1,5 +1,5 @@
 -- The cover of those present, shown over the marks that came in. Assumes nothing.
-use mathlib.Core.Path.{_≡_, sym, ap, _∙_, subst}
+use mathlib.Core.Path.{_≡_, ap, _∙_}
 use mathlib.Core.List.{List}
 use Prim.Native.Nat.{ℕ, _≤_, _<_}
 use native.Mathlib.Omega.{arith}
@@ -8,22 +8,21 @@ use Rattle.model.specs.declared.Head.{Head}
 use Rattle.model.specs.declared.Counts.{Counts}
 use Rattle.model.specs.Graph.{cover-under}
 use Rattle.model.specs.Layout.{mark-places, over, counting-graph}
-use Rattle.model.specs.Calls.{QueryOutcome, counts, shown, peel-limits}
-use Rattle.model.specs.Crowd.{present-cover}
+use Rattle.model.specs.Calls.{counts, shown, present-limits, present-cover}
 use Rattle.model.specs.Outcome.{queried}
 use Rattle.model.proofs.EndToEnd.{counts-over}
-use Rattle.model.proofs.CrowdCover.{present-cover-length, present-cover-bits, present-cover-under}
+use Rattle.model.proofs.PresentCover.{present-cover-length, present-cover-bits, present-cover-under}
 
--- what is left: the cover under a list of limits, which are those of a peel
-module _ (h : Head) (operators rides presence : List ℕ) (α β : ℕ) (limit : ℕ → ℕ) (same : (x : ℕ) → x < mark-places h → limit x ≡ peel-limits h presence α β x) (marks left : List ℕ) (is : left ≡ over (cover-under (counting-graph h operators rides presence) limit) marks) where
+-- what is left: the cover under a list of limits, which are these, raised for those who are off or out
+module _ (h : Head) (operators rides presence : List ℕ) (limit list : ℕ → ℕ) (same : (x : ℕ) → x < mark-places h → list x ≡ present-limits h presence limit x) (marks left : List ℕ) (is : left ≡ over (cover-under (counting-graph h operators rides presence) list) marks) where
   abbrev found : List ℕ
-  found = present-cover h operators rides presence α β
+  found = present-cover h operators rides presence limit
 
   long : length found ≡ mark-places h
-  long = present-cover-length h operators rides presence α β
+  long = present-cover-length h operators rides presence limit
 
   left-is : left ≡ over found marks
-  left-is = is ∙ ap (λ (s : List ℕ). over s marks) (present-cover-under h operators rides presence α β limit same)
+  left-is = is ∙ ap (λ (s : List ℕ). over s marks) (present-cover-under h operators rides presence limit list same)
 
   left-long : mark-places h ≤ length left
   left-long = omega (arith, ap length left-is, length-append found (drop (length found) marks), long)
@@ -34,7 +33,7 @@ module _ (h : Head) (operators rides presence : List ℕ) (α β : ℕ) (limit :
         arith,
         ap (λ (s : List ℕ). getD s x 0) left-is,
         List·getD-append found (drop (length found) marks) 0 x (omega (arith, long)),
-        present-cover-bits h operators rides presence α β x l,
+        present-cover-bits h operators rides presence limit x l,
       )
 
   pub left-counted : (mark-places h ≤ length left) × ((x : ℕ) → x < mark-places h → getD left x 0 ≤ 1)

@@ -1,5 +1,6 @@
 -- `present_covers::cover` meets its contract: the pairs whose nodes are both present, under the limits of a peel. Assumes nothing.
 use borrow.Author.Needs.{needs}
+use Rattle.model.specs.Graph.{own-limits}
 use Rattle.present_covers.proofs.Shown.{left-counted, left-shown}
 use Rattle.present_covers.proofs.cover.Statement.{statement}
 use Rattle.present_covers.proofs.cover.Tie as tie
@@ -23,13 +24,16 @@ cover-requires : tie.Need-cover-requires
 cover-requires c κs = search needs
 
 count-requires : tie.Need-count-requires
-count-requires c κs = let s = c .before .before .before .before .before .before .before .before .before .before .before .before .before .before .before in let a = s .args in let left = left-counted (a .head) (a .operators .now) (a .rides .now) (a .presence .now) (a .alpha) (a .beta) _ (c .before .before .before .before .before .before .before .before .fill .ensures) (a .marks .now) _ (c .before .before .before .cover .ensures _ (c .before .before .before .before .before .before .before .before .before .before .present .ensures)) in (search needs, search needs, left .0, left .1)
+count-requires c κs = let a = c .before .before .before .before .before .before .before .before .before .before .before .before .before .before .before .before .args in
+    let left = left-counted (a .head) (a .operators .now) (a .rides .now) (a .presence .now) (own-limits (a .head .operators) (a .minimums .now) (a .alpha) (a .beta)) _ (c .before .before .before .before .before .before .before .before .fill .ensures) (a .marks .now) _ (c .before .before .before .cover .ensures _ (c .before .before .before .before .before .before .before .before .before .before .present .ensures)) in
+    (search needs, search needs, left .0, left .1)
 
 same-length : tie.Need-same-length
 same-length c = search needs
 
 returns : tie.Need-returns
-returns c = let s = c .before .before .before .before .before .before .before .before .before .before .before .before .before .before .before .before in let a = s .args in left-shown (a .head) (a .operators .now) (a .rides .now) (a .presence .now) (a .alpha) (a .beta) _ (c .before .before .before .before .before .before .before .before .before .fill .ensures) (a .marks .now) _ (c .before .before .before .before .cover .ensures _ (c .before .before .before .before .before .before .before .before .before .before .before .present .ensures)) _ (c .count .ensures)
+returns c = let a = c .before .before .before .before .before .before .before .before .before .before .before .before .before .before .before .before .before .args in
+    left-shown (a .head) (a .operators .now) (a .rides .now) (a .presence .now) (own-limits (a .head .operators) (a .minimums .now) (a .alpha) (a .beta)) _ (c .before .before .before .before .before .before .before .before .before .fill .ensures) (a .marks .now) _ (c .before .before .before .before .cover .ensures _ (c .before .before .before .before .before .before .before .before .before .before .before .present .ensures)) _ (c .count .ensures)
 
 pub cover-spec : {M : Type 1} → statement M
 cover-spec =
