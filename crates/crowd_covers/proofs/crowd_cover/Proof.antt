@@ -2,10 +2,12 @@
 use borrow.Author.Needs.{needs}
 use mathlib.Core.Path.{refl}
 use native.Mathlib.Omega.{arith}
-use Rattle.peel_refusals.proofs.Chain.{lent-pairs}
 use Rattle.crowd_covers.proofs.Outcomes.{refused-board, accepted, refused-bands, found}
 use Rattle.crowd_covers.proofs.crowd_cover.Statement.{statement}
 use Rattle.crowd_covers.proofs.crowd_cover.Tie as tie
+
+slice-aggregate-lent-number : tie.Need-slice-aggregate-lent-number
+slice-aggregate-lent-number c = search needs
 
 lent-number-requires : tie.Need-lent-number-requires
 lent-number-requires c κs = search needs
@@ -17,7 +19,8 @@ same-length : tie.Need-same-length
 same-length c = search needs
 
 returns : tie.Need-returns
-returns c = let a = c .before .before .before .before .before .before .before .before .args in refused-board (a .head) (a .operators .now) (a .rides .now) (a .presence .now) _ (a .guests) (a .marks .now) _ (c .before .before .lent-number .ensures) (omega arith) _ (c .refused .ensures)
+returns c = let a = c .before .before .before .before .before .before .before .before .before .args in
+    refused-board (a .head) (a .operators .now) (a .rides .now) (a .presence .now) _ (a .guests) (a .marks .now) _ (c .before .before .lent-number .ensures) (omega arith) _ (c .refused .ensures)
 
 words-requires : tie.Need-words-requires
 words-requires c κs = search needs
@@ -32,21 +35,28 @@ same-length-2 : tie.Need-same-length-2
 same-length-2 c = search needs
 
 returns-2 : tie.Need-returns-2
-returns-2 c = let a = c .before .before .before .before .before .before .before .before .before .before .before .before .before .args in refused-bands (a .head) (a .operators .now) (a .rides .now) (a .presence .now) _ (a .guests) (a .marks .now) _ (c .before .before .before .before .before .before .before .lent-number .ensures) (omega arith) _ (c .before .before .before .find .ensures _ refl (c .before .before .before .before .before .words .ensures)) (omega arith) _ (c .refused2 .ensures)
+returns-2 c = let a = c .before .before .before .before .before .before .before .before .before .before .before .before .before .before .args in
+    refused-bands (a .head) (a .operators .now) (a .rides .now) (a .presence .now) _ (a .guests) (a .marks .now) _ (c .before .before .before .before .before .before .before .lent-number .ensures) (omega arith) _ (c .before .before .before .find .ensures _ refl (c .before .before .before .before .before .words .ensures)) (omega arith) _ (c .refused2 .ensures)
+
+slice-aggregate-cover : tie.Need-slice-aggregate-cover
+slice-aggregate-cover c = search needs
 
 cover-requires : tie.Need-cover-requires
-cover-requires c κs = let a = c .before .before .before .before .before .before .before .before .before .before .before .before .before .args in let l = accepted (a .head) (a .operators .now) (a .rides .now) (a .presence .now) (a .marks .now) _ (c .before .before .before .before .before .before .before .lent-number .ensures) (omega arith) in (lent-pairs (a .head) (a .operators .now) (a .rides .now) (a .presence .now) (a .marks .now) l, l .presence-long, l .marks-long)
+cover-requires c κs = let a = c .before .before .before .before .before .before .before .before .before .before .before .before .before .before .before .args in
+    accepted (a .head) (a .operators .now) (a .rides .now) (a .presence .now) (a .bands) (a .guests) (a .marks .now) _ (c .before .before .before .before .before .before .before .before .lent-number .ensures) (omega arith)
 
 same-length-3 : tie.Need-same-length-3
 same-length-3 c = search needs
 
 returns-3 : tie.Need-returns-3
-returns-3 c = let a = c .before .before .before .before .before .before .before .before .before .before .before .before .before .before .before .before .args in found (a .head) (a .operators .now) (a .rides .now) (a .presence .now) _ (a .guests) (a .marks .now) _ (c .before .before .before .before .before .before .before .before .before .before .lent-number .ensures) (omega arith) _ (c .before .before .before .before .before .before .find .ensures _ refl (c .before .before .before .before .before .before .before .before .words .ensures)) (omega arith) _ (c .before .before .cover .ensures)
+returns-3 c = let a = c .before .before .before .before .before .before .before .before .before .before .before .before .before .before .before .before .before .before .args in
+    found (a .head) (a .operators .now) (a .rides .now) (a .presence .now) _ (a .guests) (a .marks .now) _ (c .before .before .before .before .before .before .before .before .before .before .before .lent-number .ensures) (omega arith) _ (c .before .before .before .before .before .before .before .find .ensures _ refl (c .before .before .before .before .before .before .before .before .before .words .ensures)) (omega arith) _ (c .before .before .cover .ensures)
 
 pub crowd-cover-spec : {M : Type 1} → statement M
 crowd-cover-spec =
     tie.close
     (tie.spec
+    slice-aggregate-lent-number
     lent-number-requires
     refused-requires
     same-length
@@ -56,6 +66,7 @@ crowd-cover-spec =
     refused-requires-2
     same-length-2
     returns-2
+    slice-aggregate-cover
     cover-requires
     same-length-3
     returns-3)
