@@ -8,36 +8,37 @@ use lib.ListN.{length, getD, length-append}
 use Rattle.model.specs.declared.Head.{Head}
 use Rattle.model.specs.declared.Message.{Message}
 use Rattle.model.specs.declared.Bands.{Bands}
-use Rattle.model.specs.Graph.{Graph, nodes, limits, marked, present, index-of}
+use Rattle.model.specs.Graph.{Graph, nodes, limits, own-limits, marked, present, index-of}
 use Rattle.model.specs.Layout.{Operators, Rides, Index, Presence, Parts, parts, Board, mark-places, listed-graph, board-graph}
-use Rattle.model.specs.Calls.{QueryOutcome, PeelOutcome, board-query, board-peel}
+use Rattle.model.specs.Calls.{QueryOutcome, PeelOutcome, board-query, board-peel, board-own-cover}
 use Rattle.model.specs.Crowd.{board-crowd-limits, board-crowd-cover}
-use Rattle.model.specs.Demand.{IsCore, IsPeeledCore}
+use Rattle.model.specs.Demand.{IsCoverUnder, IsCore, IsPeeledCover, MinimumsAll}
 use Rattle.model.proofs.Cover.{cover-laws, cover-under-laws}
 use Rattle.model.proofs.Level.{level-laws}
 use Rattle.model.proofs.Peel.{peel-laws}
 use Rattle.model.proofs.Presence.{largest-start}
 use Rattle.model.proofs.Query.{zero-is-no-limit, query-is-core, presence-laws}
 use Rattle.model.proofs.Contents.{extend, present-extend, graph-extend, index-words}
-use Rattle.model.proofs.EndToEnd.{index-then-query, build-then-query, peel-cases-none, peel-none, peel-is-largest, peel-is-core}
+use Rattle.model.proofs.EndToEnd.{index-then-query, build-then-query, cover-cases-none, own-cover-none, peel-none, peel-is-largest, peel-is-cover}
 use Rattle.model.proofs.Preview.{preview-then-query}
+use Rattle.model.proofs.OwnCover.{own-cover-laws}
 use Rattle.model.proofs.CrowdTable.{crowd-limits-laws}
 use Rattle.model.proofs.CrowdCover.{crowd-cover-laws}
 use Rattle.delivery.specs.Book.{book, written}
-use Rattle.delivery.specs.Core.{CallsThenIndex, CallsThenQuery, CallsThenPeel, CallsThenCrowdCover, Demand2}
+use Rattle.delivery.specs.Core.{CallsThenIndex, CallsThenQuery, CallsThenPeel, CallsThenOwnCover, CallsThenSame, CallsThenCrowdCover, Demand2}
 use Rattle.delivery.proofs.Latest.{AllValid}
 use Rattle.delivery.proofs.Run.{says, laid-written, accepted-written}
 use Rattle.delivery.proofs.Build.{table}
 use Rattle.delivery.proofs.Demand.{board-is-book, valid-book}
 
 -- of those who are here the nodes count alone
-core-start : (g : Graph) (here here′ : ℕ → Bool) (α β : ℕ) (o : QueryOutcome) → ((x : ℕ) → x < nodes g → here x ≡ here′ x) → IsCore g here α β o → IsCore g here′ α β o
-core-start g here here′ α β o same c =
-    record { code = c .code; core = largest-start g (limits (g .operators) α β) here here′ (marked (o .marks)) same (c .core); operators = c .operators; rides = c .rides }
+cover-start : (g : Graph) (here here′ : ℕ → Bool) (limit : ℕ → ℕ) (o : QueryOutcome) → ((x : ℕ) → x < nodes g → here x ≡ here′ x) → IsCoverUnder g here limit o → IsCoverUnder g here′ limit o
+cover-start g here here′ limit o same c =
+    record { code = c .code; largest = largest-start g limit here here′ (marked (o .marks)) same (c .largest); operators = c .operators; rides = c .rides }
 
-peeled-start : (g : Graph) (here here′ : ℕ → Bool) (α β allowed : ℕ) (o : PeelOutcome) → ((x : ℕ) → x < nodes g → here x ≡ here′ x) → IsPeeledCore g here α β allowed o → IsPeeledCore g here′ α β allowed o
-peeled-start g here here′ α β allowed o same c =
-    record { code = c .code; core = λ e. largest-start g (limits (g .operators) α β) here here′ (marked (o .marks)) same (c .core e); steps = c .steps; settles = c .settles }
+peeled-start : (g : Graph) (here here′ : ℕ → Bool) (limit : ℕ → ℕ) (allowed : ℕ) (o : PeelOutcome) → ((x : ℕ) → x < nodes g → here x ≡ here′ x) → IsPeeledCover g here limit allowed o → IsPeeledCover g here′ limit allowed o
+peeled-start g here here′ limit allowed o same c =
+    record { code = c .code; largest = λ e. largest-start g limit here here′ (marked (o .marks)) same (c .largest e); steps = c .steps; settles = c .settles }
 
 module _ (h : Head) (es : List Message) where
   abbrev board : Board
@@ -61,19 +62,42 @@ module _ (h : Head) (es : List Message) where
         let behind : Parts = parts [] [] [] [] more [] [] more′ in
         let lent : Board = extend board behind in
         let c = index-then-query (board .head) (listed-graph lent .cleared) (lent .part Presence) more α β marks few few′ (omega (arith, length-append (board .part Presence) more′, laid-written h es Presence)) long in
-        let d = core-start (board-graph lent) (present (lent .part Presence)) here α β _ (present-extend h (says h es) behind) c in
+        let d = cover-start (board-graph lent) (present (lent .part Presence)) here (limits (h .operators) α β) _ (present-extend h (says h es) behind) c in
         subst (λ (g : Graph). IsCore g here α β (board-query (board .head) (board .part Index ++ more) (lent .part Presence) α β marks)) (graph-extend h (says h es) behind)
         (subst (λ (i : List ℕ). IsCore (board-graph lent) here α β (board-query (board .head) (i ++ more) (lent .part Presence) α β marks)) (sym (written-index behind)) d)
 
-    written-peel : AllValid h es → (more more′ more″ : List ℕ) (allowed : ℕ) → ((x : ℕ) → x < mark-places h → getD marks x 0 ≡ 1) → IsPeeledCore (board-graph board) here α β allowed (board-peel (board .head) (board .part Operators ++ more) (board .part Rides ++ more′) (board .part Presence ++ more″) marks α β allowed)
-    unfolding written
-    written-peel valid more more′ more″ allowed ones =
-        let behind : Parts = parts more more′ [] [] [] [] [] more″ in
-        let lent : Board = extend board behind in
-        let none = peel-none lent marks (accepted-written h es few few′ valid behind .table) long ones in
-        let c = peel-is-core (board .head) (lent .part Operators) (lent .part Rides) (lent .part Presence) marks α β allowed none ones in
-        subst (λ (g : Graph). IsPeeledCore g here α β allowed (board-peel (board .head) (lent .part Operators) (lent .part Rides) (lent .part Presence) marks α β allowed)) (graph-extend h (says h es) behind)
-        (peeled-start (board-graph lent) (present (lent .part Presence)) here α β allowed _ (present-extend h (says h es) behind) c)
+    module _ (valid : AllValid h es) (more more′ more″ minimums : List ℕ) (enough : h .rides ≤ length minimums) where
+      abbrev limit : ℕ → ℕ
+      limit = own-limits (h .operators) minimums α β
+
+      written-peel : (allowed : ℕ) → ((x : ℕ) → x < mark-places h → getD marks x 0 ≡ 1) → IsPeeledCover (board-graph board) here limit allowed (board-peel (board .head) (board .part Operators ++ more) (board .part Rides ++ more′) (board .part Presence ++ more″) minimums marks α β allowed)
+      unfolding written
+      written-peel allowed ones =
+          let behind : Parts = parts more more′ [] [] [] [] [] more″ in
+          let lent : Board = extend board behind in
+          let none = peel-none lent minimums marks (accepted-written h es few few′ valid behind .table) enough long ones in
+          let c = peel-is-cover (board .head) (lent .part Operators) (lent .part Rides) (lent .part Presence) minimums marks α β allowed none ones .own in
+          subst (λ (g : Graph). IsPeeledCover g here limit allowed (board-peel (board .head) (lent .part Operators) (lent .part Rides) (lent .part Presence) minimums marks α β allowed)) (graph-extend h (says h es) behind)
+          (peeled-start (board-graph lent) (present (lent .part Presence)) here limit allowed _ (present-extend h (says h es) behind) c)
+
+      written-own : IsCoverUnder (board-graph board) here limit (board-own-cover (board .head) (board .part Operators ++ more) (board .part Rides ++ more′) (board .part Presence ++ more″) minimums α β marks)
+      unfolding written
+      written-own =
+          let behind : Parts = parts more more′ [] [] [] [] [] more″ in
+          let lent : Board = extend board behind in
+          let laws = own-cover-laws (board .head) (lent .part Operators) (lent .part Rides) (lent .part Presence) minimums α β marks in
+          let c = laws .own (laws .number ∙ own-cover-none lent minimums marks (accepted-written h es few few′ valid behind .table) enough long) in
+          subst (λ (g : Graph). IsCoverUnder g here limit (board-own-cover (board .head) (lent .part Operators) (lent .part Rides) (lent .part Presence) minimums α β marks)) (graph-extend h (says h es) behind)
+          (cover-start (board-graph lent) (present (lent .part Presence)) here limit _ (present-extend h (says h es) behind) c)
+
+      written-same : (more‴ : List ℕ) → MinimumsAll h minimums 0 → board-query (board .head) (board .part Index ++ more‴) (board .part Presence ++ more″) α β marks ≡ board-own-cover (board .head) (board .part Operators ++ more) (board .part Rides ++ more′) (board .part Presence ++ more″) minimums α β marks
+      unfolding written
+      written-same more‴ zeros =
+          let behind : Parts = parts more more′ [] [] [] [] [] more″ in
+          let lent : Board = extend board behind in
+          let laws = own-cover-laws (board .head) (lent .part Operators) (lent .part Rides) (lent .part Presence) minimums α β marks in
+          let none = laws .number ∙ own-cover-none lent minimums marks (accepted-written h es few few′ valid behind .table) enough long in
+          ap (λ (i : List ℕ). board-query (board .head) (i ++ more‴) (lent .part Presence) α β marks) (written-index behind) ∙ laws .as-query more‴ zeros none
 
   written-crowd : h .operators ≤ 200 → h .rides ≤ 60 → AllValid h es → (marks : List ℕ) → mark-places h ≤ length marks → (more more′ more″ : List ℕ) (t : Bands) (guests : ℕ) → board-crowd-limits t guests .code ≡ 0 → IsCore (board-graph board) here (board-crowd-limits t guests .alpha) (board-crowd-limits t guests .beta) (board-crowd-cover (board .head) (board .part Operators ++ more) (board .part Rides ++ more′) (board .part Presence ++ more″) t guests marks)
   unfolding written
@@ -81,12 +105,12 @@ module _ (h : Head) (es : List Message) where
       let behind : Parts = parts more more′ [] [] [] [] [] more″ in
       let lent : Board = extend board behind in
       let laws = crowd-cover-laws (board .head) (lent .part Operators) (lent .part Rides) (lent .part Presence) t guests marks in
-      let none = peel-cases-none lent marks (accepted-written h es few few′ valid behind .table) long in
+      let none = cover-cases-none lent marks (accepted-written h es few few′ valid behind .table) long in
       let c = laws .core (laws .then-bands none ∙ e) in
       let α : ℕ = board-crowd-limits t guests .alpha in
       let β : ℕ = board-crowd-limits t guests .beta in
       subst (λ (g : Graph). IsCore g here α β (board-crowd-cover (board .head) (lent .part Operators) (lent .part Rides) (lent .part Presence) t guests marks)) (graph-extend h (says h es) behind)
-      (core-start (board-graph lent) (present (lent .part Presence)) here α β _ (present-extend h (says h es) behind) c)
+      (cover-start (board-graph lent) (present (lent .part Presence)) here (limits (h .operators) α β) _ (present-extend h (says h es) behind) c)
 
 pub calls-then-index : CallsThenIndex
 calls-then-index b start calls e =
@@ -100,10 +124,22 @@ calls-then-query b start calls more more′ α β marks e long =
     (written-query (b .head) (book (b .head) (b .part Operators) (b .part Rides) start calls) (t .few-operators) (t .few-rides) α β marks long more more′)
 
 pub calls-then-peel : CallsThenPeel
-calls-then-peel b start calls more more′ more″ α β allowed marks e long ones =
+calls-then-peel b start calls more more′ more″ minimums α β allowed marks e enough long ones =
     let t = table b start e in
-    subst (λ (x : Board). IsPeeledCore (board-graph x) (present (x .part Presence)) α β allowed (board-peel (x .head) (x .part Operators ++ more) (x .part Rides ++ more′) (x .part Presence ++ more″) marks α β allowed)) (sym (board-is-book b start calls e))
-    (written-peel (b .head) (book (b .head) (b .part Operators) (b .part Rides) start calls) (t .few-operators) (t .few-rides) α β marks long (valid-book b start calls e) more more′ more″ allowed ones)
+    subst (λ (x : Board). IsPeeledCover (board-graph x) (present (x .part Presence)) (own-limits (b .head .operators) minimums α β) allowed (board-peel (x .head) (x .part Operators ++ more) (x .part Rides ++ more′) (x .part Presence ++ more″) minimums marks α β allowed)) (sym (board-is-book b start calls e))
+    (written-peel (b .head) (book (b .head) (b .part Operators) (b .part Rides) start calls) (t .few-operators) (t .few-rides) α β marks long (valid-book b start calls e) more more′ more″ minimums enough allowed ones)
+
+pub calls-then-own-cover : CallsThenOwnCover
+calls-then-own-cover b start calls more more′ more″ minimums α β marks e enough long =
+    let t = table b start e in
+    subst (λ (x : Board). IsCoverUnder (board-graph x) (present (x .part Presence)) (own-limits (b .head .operators) minimums α β) (board-own-cover (x .head) (x .part Operators ++ more) (x .part Rides ++ more′) (x .part Presence ++ more″) minimums α β marks)) (sym (board-is-book b start calls e))
+    (written-own (b .head) (book (b .head) (b .part Operators) (b .part Rides) start calls) (t .few-operators) (t .few-rides) α β marks long (valid-book b start calls e) more more′ more″ minimums enough)
+
+pub calls-then-same : CallsThenSame
+calls-then-same b start calls more more′ more″ more‴ minimums α β marks e enough long zeros =
+    let t = table b start e in
+    subst (λ (x : Board). board-query (x .head) (x .part Index ++ more‴) (x .part Presence ++ more″) α β marks ≡ board-own-cover (x .head) (x .part Operators ++ more) (x .part Rides ++ more′) (x .part Presence ++ more″) minimums α β marks) (sym (board-is-book b start calls e))
+    (written-same (b .head) (book (b .head) (b .part Operators) (b .part Rides) start calls) (t .few-operators) (t .few-rides) α β marks long (valid-book b start calls e) more more′ more″ minimums enough more‴ zeros)
 
 pub calls-then-crowd-cover : CallsThenCrowdCover
 calls-then-crowd-cover b start calls more more′ more″ t guests marks e long accepted =
@@ -125,11 +161,14 @@ demand-2 =
       build-then-query = build-then-query;
       preview-then-query = preview-then-query;
       peel-is-largest = peel-is-largest;
-      peel-is-core = peel-is-core;
+      peel-is-cover = peel-is-cover;
+      own-cover-laws = own-cover-laws;
       crowd-limits-laws = crowd-limits-laws;
       crowd-cover-laws = crowd-cover-laws;
       calls-then-index = calls-then-index;
       calls-then-query = calls-then-query;
       calls-then-peel = calls-then-peel;
+      calls-then-own-cover = calls-then-own-cover;
+      calls-then-same = calls-then-same;
       calls-then-crowd-cover = calls-then-crowd-cover;
     }

@@ -1,17 +1,17 @@
 -- Demand 2, all of it: index, queries, peel and the cover for a guest count give the (α, β)-core of Definition 2.1, of the pairs that count and
--- those present, on any index of clearances, after a build, and after any list of calls.
+-- those present, on any index of clearances, after a build, and after any list of calls; peel and cover with minimums give the largest set under them.
 use mathlib.Core.Path.{_≡_}
 use mathlib.Core.List.{List, _++_}
 use Prim.Native.Nat.{ℕ, _≤_}
 use lib.ListN.{length}
 use Rattle.model.specs.declared.Head.{Head}
 use Rattle.model.specs.declared.Bands.{Bands}
-use Rattle.model.specs.Graph.{present, index-of}
-use Rattle.model.specs.Layout.{Operators, Rides, Index, Presence, Board, mark-places, board-graph}
-use Rattle.model.specs.Refusal.{build-refusal}
-use Rattle.model.specs.Calls.{board-query, board-peel}
+use Rattle.model.specs.Graph.{own-limits, present, index-of}
+use Rattle.model.specs.Layout.{Operators, Rides, Index, Presence, Board, mark-places, counting-graph, board-graph}
+use Rattle.model.specs.Refusal.{build-refusal, peel-refusal}
+use Rattle.model.specs.Calls.{board-query, board-peel, board-own-cover}
 use Rattle.model.specs.Crowd.{board-crowd-limits, board-crowd-cover}
-use Rattle.model.specs.Demand.{AllOnes, PeelLaws, CoverLaws, CoverUnderLaws, LevelLaws, ZeroIsNoLimit, PresenceLaws, QueryIsCore, IsCore, IndexThenQuery, BuildThenQuery, PreviewThenQuery, PeelIsLargest, IsPeeledCore, PeelIsCore, CrowdLimitsLaws, CrowdCoverLaws}
+use Rattle.model.specs.Demand.{AllOnes, PeelLaws, CoverLaws, CoverUnderLaws, LevelLaws, ZeroIsNoLimit, PresenceLaws, QueryIsCore, IsCoverUnder, IsCore, IndexThenQuery, BuildThenQuery, PreviewThenQuery, PeelIsLargest, IsPeeledCover, MinimumsAll, PeelIsCover, OwnCoverLaws, CrowdLimitsLaws, CrowdCoverLaws}
 use Rattle.delivery.specs.Calls.{Call, run, built-board}
 
 -- the index that a list of calls left is that of the listed pairs that then count
@@ -33,16 +33,41 @@ CallsThenQuery =
     IsCore (board-graph left) (present (left .part Presence)) α β
     (board-query (left .head) (left .part Index ++ more) (left .part Presence ++ more′) α β marks)
 
--- each peel of it from all ones, its pair arrays and presence words lent with any words behind them, gives that core too once it is settled
+-- each peel of it from all ones, its pair arrays and presence words lent with any words behind them, gives the largest set under its limits once it
+-- is settled: α, and each ride's own minimum, or β
 abbrev pub CallsThenPeel : Type 0
 CallsThenPeel =
-    (b : Board) (start : ℕ) (calls : List Call) (more more′ more″ : List ℕ) (α β allowed : ℕ) (marks : List ℕ) →
+    (b : Board) (start : ℕ) (calls : List Call) (more more′ more″ minimums : List ℕ) (α β allowed : ℕ) (marks : List ℕ) →
     build-refusal b start ≡ 0 →
+    b .head .rides ≤ length minimums →
     mark-places (b .head) ≤ length marks →
     AllOnes (board-graph b) marks →
     let left = run (built-board b start) calls in
-    IsPeeledCore (board-graph left) (present (left .part Presence)) α β allowed
-    (board-peel (left .head) (left .part Operators ++ more) (left .part Rides ++ more′) (left .part Presence ++ more″) marks α β allowed)
+    IsPeeledCover (board-graph left) (present (left .part Presence)) (own-limits (b .head .operators) minimums α β) allowed
+    (board-peel (left .head) (left .part Operators ++ more) (left .part Rides ++ more′) (left .part Presence ++ more″) minimums marks α β allowed)
+
+-- each cover of it with minimums gives that set too, with its sizes
+abbrev pub CallsThenOwnCover : Type 0
+CallsThenOwnCover =
+    (b : Board) (start : ℕ) (calls : List Call) (more more′ more″ minimums : List ℕ) (α β : ℕ) (marks : List ℕ) →
+    build-refusal b start ≡ 0 →
+    b .head .rides ≤ length minimums →
+    mark-places (b .head) ≤ length marks →
+    let left = run (built-board b start) calls in
+    IsCoverUnder (board-graph left) (present (left .part Presence)) (own-limits (b .head .operators) minimums α β)
+    (board-own-cover (left .head) (left .part Operators ++ more) (left .part Rides ++ more′) (left .part Presence ++ more″) minimums α β marks)
+
+-- and with all minimums 0 its marks and counts are those of a query on the index that the calls left
+abbrev pub CallsThenSame : Type 0
+CallsThenSame =
+    (b : Board) (start : ℕ) (calls : List Call) (more more′ more″ more‴ minimums : List ℕ) (α β : ℕ) (marks : List ℕ) →
+    build-refusal b start ≡ 0 →
+    b .head .rides ≤ length minimums →
+    mark-places (b .head) ≤ length marks →
+    MinimumsAll (b .head) minimums 0 →
+    let left = run (built-board b start) calls in
+    board-query (left .head) (left .part Index ++ more‴) (left .part Presence ++ more″) α β marks
+    ≡ board-own-cover (left .head) (left .part Operators ++ more) (left .part Rides ++ more′) (left .part Presence ++ more″) minimums α β marks
 
 -- each cover of it for a guest count, by a table that is accepted, gives the core for the limits of the look-up
 abbrev pub CallsThenCrowdCover : Type 0
@@ -70,7 +95,11 @@ pub record Demand2 : Type 0 where
   pub build-then-query : BuildThenQuery
   pub preview-then-query : PreviewThenQuery
   pub peel-is-largest : PeelIsLargest
-  pub peel-is-core : PeelIsCore
+  pub peel-is-cover : (h : Head) (operators rides presence minimums marks : List ℕ) (α β allowed : ℕ) →
+      peel-refusal h operators rides presence minimums marks ≡ 0 → AllOnes (counting-graph h operators rides presence) marks →
+      PeelIsCover h operators rides presence minimums marks α β allowed
+  pub own-cover-laws : (h : Head) (operators rides presence minimums : List ℕ) (α β : ℕ) (marks : List ℕ) →
+      OwnCoverLaws h operators rides presence minimums α β marks
   pub crowd-limits-laws : (t : Bands) (guests : ℕ) → CrowdLimitsLaws t guests
   pub crowd-cover-laws : (h : Head) (operators rides presence : List ℕ) (t : Bands) (guests : ℕ) (marks : List ℕ) →
       CrowdCoverLaws h operators rides presence t guests marks
@@ -78,4 +107,6 @@ pub record Demand2 : Type 0 where
   pub calls-then-index : CallsThenIndex
   pub calls-then-query : CallsThenQuery
   pub calls-then-peel : CallsThenPeel
+  pub calls-then-own-cover : CallsThenOwnCover
+  pub calls-then-same : CallsThenSame
   pub calls-then-crowd-cover : CallsThenCrowdCover
