@@ -21,7 +21,7 @@ use Rattle.model.proofs.Query.{zero-is-no-limit, query-is-core, presence-laws}
 use Rattle.model.proofs.Contents.{extend, present-extend, graph-extend, index-words}
 use Rattle.model.proofs.EndToEnd.{index-then-query, build-then-query, cover-cases-none, own-cover-none, peel-none, peel-is-largest, peel-is-cover}
 use Rattle.model.proofs.Preview.{preview-then-query}
-use Rattle.model.proofs.OwnCover.{own-cover-laws}
+use Rattle.model.proofs.OwnCover.{own-limits-laws, own-cover-laws}
 use Rattle.model.proofs.CrowdTable.{crowd-limits-laws}
 use Rattle.model.proofs.CrowdCover.{crowd-cover-laws}
 use Rattle.delivery.specs.Book.{book, written}
@@ -161,6 +161,7 @@ demand-2 =
       build-then-query = build-then-query;
       preview-then-query = preview-then-query;
       peel-is-largest = peel-is-largest;
+      own-limits-laws = own-limits-laws;
       peel-is-cover = peel-is-cover;
       own-cover-laws = own-cover-laws;
       crowd-limits-laws = crowd-limits-laws;

@@ -11,7 +11,7 @@ use Rattle.model.specs.Layout.{Operators, Rides, Index, Presence, Board, mark-p
 use Rattle.model.specs.Refusal.{build-refusal, peel-refusal}
 use Rattle.model.specs.Calls.{board-query, board-peel, board-own-cover}
 use Rattle.model.specs.Crowd.{board-crowd-limits, board-crowd-cover}
-use Rattle.model.specs.Demand.{AllOnes, PeelLaws, CoverLaws, CoverUnderLaws, LevelLaws, ZeroIsNoLimit, PresenceLaws, QueryIsCore, IsCoverUnder, IsCore, IndexThenQuery, BuildThenQuery, PreviewThenQuery, PeelIsLargest, IsPeeledCover, MinimumsAll, PeelIsCover, OwnCoverLaws, CrowdLimitsLaws, CrowdCoverLaws}
+use Rattle.model.specs.Demand.{AllOnes, PeelLaws, CoverLaws, CoverUnderLaws, LevelLaws, ZeroIsNoLimit, PresenceLaws, QueryIsCore, IsCoverUnder, IsCore, IndexThenQuery, BuildThenQuery, PreviewThenQuery, PeelIsLargest, IsPeeledCover, OwnLimitsLaws, MinimumsAll, PeelIsCover, OwnCoverLaws, CrowdLimitsLaws, CrowdCoverLaws}
 use Rattle.delivery.specs.Calls.{Call, run, built-board}
 
 -- the index that a list of calls left is that of the listed pairs that then count
@@ -95,6 +95,7 @@ pub record Demand2 : Type 0 where
   pub build-then-query : BuildThenQuery
   pub preview-then-query : PreviewThenQuery
   pub peel-is-largest : PeelIsLargest
+  pub own-limits-laws : (operators : ℕ) (minimums : List ℕ) (α β : ℕ) → OwnLimitsLaws operators minimums α β
   pub peel-is-cover : (h : Head) (operators rides presence minimums marks : List ℕ) (α β allowed : ℕ) →
       peel-refusal h operators rides presence minimums marks ≡ 0 → AllOnes (counting-graph h operators rides presence) marks →
       PeelIsCover h operators rides presence minimums marks α β allowed

@@ -1,8 +1,8 @@
 -- The cover with minimums: its number, that it is the largest set under its limits, and what it is where all minimums are one. Assumes nothing.
-use mathlib.Core.Path.{_≡_, refl, sym, ap, _∙_, subst}
+use mathlib.Core.Path.{_≡_, refl, sym, ap, _∙_}
 use mathlib.Core.Bool.{Bool, true, false, _||_}
-use mathlib.Core.List.{List, [], _∷_, _++_}
-use Prim.Native.Nat.{ℕ, zero, suc, _+_, _≤_, _<_}
+use mathlib.Core.List.{List, [], _++_}
+use Prim.Native.Nat.{ℕ, suc, _+_, _-_, _<_}
 use native.Mathlib.Omega.{arith}
 use lib.Dec.{ltb, eqb}
 use borrow.Author.Tests.{le-ltb}
@@ -10,14 +10,29 @@ use lib.ListN.{length, getD, length-append, List·getD-append}
 use Rattle.model.specs.declared.Head.{Head}
 use Rattle.model.specs.Graph.{Graph, limits, ride-limit, own-limits, marked, present, index-of}
 use Rattle.model.specs.Layout.{pair-places, mark-places, listed, counting-graph}
-use Rattle.model.specs.Refusal.{refused-3, first-number, table-cases, cover-short, peel-cases, peel-refusal, own-cover-refusal}
+use Rattle.model.specs.Refusal.{refused-3, first-number, table-cases, cover-short, peel-refusal, own-cover-refusal}
 use Rattle.model.specs.Calls.{QueryOutcome, shown, not-shown, board-query, board-peel, present-cover, board-own-cover}
-use Rattle.model.specs.Demand.{AllOnes, MinimumsAll, IsCoverUnder, IsCore, OwnCoverLaws}
-use Rattle.model.proofs.Cover.{ride-none, ride-own, own-same, own-one, largest-under}
+use Rattle.model.specs.Demand.{AllOnes, IsCoverUnder, IsCore, OwnLimitsLaws, MinimumsAll, OwnCoverLaws}
+use Rattle.model.proofs.Cover.{ride-none, ride-own, own-operator, own-ride, own-same, own-one, largest-under}
 use Rattle.model.proofs.Peel.{peel-laws}
 use Rattle.model.proofs.Refusal.{peel-lent}
 use Rattle.model.proofs.EndToEnd.{query-shown, peel-is-cover}
 use Rattle.model.proofs.PresentCover.{present-cover-same, query-cover, call-code, code-number, call-under, call-refused, call-behind, call-answer}
+
+-- ---- the limits
+
+pub own-limits-laws : (n : ℕ) (minimums : List ℕ) (α β : ℕ) → OwnLimitsLaws n minimums α β
+own-limits-laws n minimums α β =
+    record {
+      operator = own-operator n minimums α β;
+      own = λ v e. at-ride v ∙ ride-own minimums β v (getD minimums v 0) (omega arith) refl;
+      none = λ v e. at-ride v ∙ ride-none minimums β v e;
+    }
+  where
+    at-ride : (v : ℕ) → own-limits n minimums α β (n + v) ≡ ride-limit minimums β v
+    at-ride v = own-ride n minimums α β (n + v) (omega arith) ∙ ap (ride-limit minimums β) (let e : n + v - n ≡ v = omega arith in e)
+
+-- ---- the call
 
 module _ (h : Head) (operators rides presence minimums : List ℕ) (α β : ℕ) (marks : List ℕ) where
   abbrev number : ℕ

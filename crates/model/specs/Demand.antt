@@ -278,6 +278,14 @@ pub record IsPeeledCover (g : Graph) (here : ℕ → Bool) (limit : ℕ → ℕ)
 abbrev pub IsPeeledCore : Graph → (ℕ → Bool) → ℕ → ℕ → ℕ → PeelOutcome → Type 0
 IsPeeledCore g here α β allowed o = IsPeeledCover g here (limits (g .operators) α β) allowed o
 
+-- Document 02, 2.7: the limits of operators and of rides, node operators + v being ride v, for any minimums
+pub record OwnLimitsLaws (operators : ℕ) (minimums : List ℕ) (α β : ℕ) : Type 0 where
+  -- α for every operator
+  pub operator : (u : ℕ) → u < operators → own-limits operators minimums α β u ≡ α
+  -- a ride's own minimum where there is one, also where it is smaller than β; β elsewhere
+  pub own : (v : ℕ) → getD minimums v 0 ≢ 0 → own-limits operators minimums α β (operators + v) ≡ getD minimums v 0
+  pub none : (v : ℕ) → getD minimums v 0 ≡ 0 → own-limits operators minimums α β (operators + v) ≡ β
+
 -- all minimums are m
 abbrev pub MinimumsAll : Head → List ℕ → ℕ → Type 0
 MinimumsAll h minimums m = (v : ℕ) → v < h .rides → getD minimums v 0 ≡ m

@@ -1,6 +1,6 @@
 -- Document 01, Samples on that board: those with a star, one table. Each row has what the definitions give, and what document 01 says.
 -- The last row, "Built at stamp 5", has no star. Further tables have limits of 0, previews, revisions and presence: document 02, 2.1 to 2.4;
--- lists of limits; and limits by crowd: 2.6.
+-- lists of limits; limits by crowd: 2.6; and minimums: 2.7.
 use mathlib.Core.Path.{_≡_}
 use mathlib.Core.List.{List, [], _∷_, _++_}
 use Prim.Native.Nat.{ℕ, _-_, _*_}
@@ -10,7 +10,7 @@ use Rattle.model.specs.declared.Band.{Band}
 use Rattle.model.specs.declared.Bands.{Bands}
 use Rattle.model.specs.Graph.{Graph, limits, removals, cover-under, cover, row}
 use Rattle.model.specs.Layout.{Operators, Rides, Stamps, Revisions, Index, PresenceStamps, PresenceRevisions, Presence, Board, mark-places, lent, listed-graph}
-use Rattle.model.specs.Calls.{PeelOutcome, board-build, board-query, board-peel}
+use Rattle.model.specs.Calls.{QueryOutcome, PeelOutcome, board-build, board-query, board-peel, board-own-cover}
 use Rattle.model.specs.Crowd.{board-crowd-limits, board-crowd-cover}
 use Rattle.model.specs.Message.{MessageOutcome, board-message, board-preview}
 
@@ -34,7 +34,8 @@ board = listed-graph table
 
 -- its peel (2,2), from marks and with a number of allowed steps
 abbrev peel-2-2 : List ℕ → ℕ → PeelOutcome
-peel-2-2 marks allowed = board-peel (table .head) (table .part Operators) (table .part Rides) (replicate 7 1) marks 2 2 allowed
+peel-2-2 marks allowed =
+    board-peel (table .head) (table .part Operators) (table .part Rides) (replicate 7 1) (replicate 3 0) marks 2 2 allowed
 
 -- a peel's number, settled and steps
 abbrev answer : PeelOutcome → List ℕ
@@ -83,18 +84,21 @@ samples =
     ) ∷
     []
 
--- what a query gives on a board just built: its number, its counts, and the marks
+-- what a query or a cover gives: its number, its counts, and the marks
+abbrev marked-and-counted : QueryOutcome → List ℕ
+marked-and-counted o = o .answer .code ∷ o .answer .operators ∷ o .answer .rides ∷ o .marks
+
+-- what a query gives on a board just built
 abbrev asked : Board → ℕ → ℕ → List ℕ
 asked b α β =
     let left = board-build b 1 .board in
-    let o = board-query (b .head) (left .part Index) (left .part Presence) α β (replicate (mark-places (b .head)) 9) in
-    o .answer .code ∷ o .answer .operators ∷ o .answer .rides ∷ o .marks
+    marked-and-counted (board-query (b .head) (left .part Index) (left .part Presence) α β (replicate (mark-places (b .head)) 9))
 
 -- the marks that a peel from all ones leaves
 abbrev left : Board → ℕ → ℕ → List ℕ
 left b α β =
     let ones : List ℕ = replicate (mark-places (b .head)) 1 in
-    board-peel (b .head) (b .part Operators) (b .part Rides) ones ones α β (mark-places (b .head)) .marks
+    board-peel (b .head) (b .part Operators) (b .part Rides) ones (replicate (b .head .rides) 0) ones α β (mark-places (b .head)) .marks
 
 -- a row for limits (α, β): what a query and a peel give, and the counts and marks that both should have
 abbrev limits-row : Board → ℕ → ℕ → ℕ → ℕ → List ℕ → List ℕ × List ℕ
@@ -236,16 +240,14 @@ abbrev with-presence : Board → List ℕ → List ℕ → Board
 with-presence b stamps words =
     lent (b .head) (b .part Operators) (b .part Rides) (b .part Stamps) (b .part Revisions) (b .part Index) stamps (b .part PresenceRevisions) words
 
--- what a query gives on a board as it stands: its number, its counts, and the marks
+-- what a query gives on a board as it stands
 abbrev asked-as-is : Board → ℕ → ℕ → List ℕ
-asked-as-is b α β =
-    let o = board-query (b .head) (b .part Index) (b .part Presence) α β (replicate 7 9) in
-    o .answer .code ∷ o .answer .operators ∷ o .answer .rides ∷ o .marks
+asked-as-is b α β = marked-and-counted (board-query (b .head) (b .part Index) (b .part Presence) α β (replicate 7 9))
 
 -- what a peel from all ones gives on a board as it stands: its number, settled, steps, and the marks
 abbrev peeled-as-is : Board → ℕ → ℕ → ℕ → List ℕ
 peeled-as-is b α β allowed =
-    let o = board-peel (b .head) (b .part Operators) (b .part Rides) (b .part Presence) (replicate 7 1) α β allowed in
+    let o = board-peel (b .head) (b .part Operators) (b .part Rides) (b .part Presence) (replicate 3 0) (replicate 7 1) α β allowed in
     o .answer .code ∷ o .answer .settled ∷ o .answer .steps ∷ o .marks
 
 -- on the board built at stamp 5: operator 2 off, ride 1 out, both with stamp 6; and back with stamp 7
@@ -346,11 +348,10 @@ abbrev looked-up : Bands → ℕ → List ℕ
 looked-up t guests =
     let o = board-crowd-limits t guests in o .code ∷ o .alpha ∷ o .beta ∷ []
 
--- what a cover for a guest count gives on document 01's board with these presence words, from so many marks of 7: its number, its counts, and the marks
+-- what a cover for a guest count gives on document 01's board with these presence words, from so many marks of 7
 abbrev crowd-asked : List ℕ → Bands → ℕ → ℕ → List ℕ
 crowd-asked presence t guests places =
-    let o = board-crowd-cover (table .head) (table .part Operators) (table .part Rides) presence t guests (replicate places 7) in
-    o .answer .code ∷ o .answer .operators ∷ o .answer .rides ∷ o .marks
+    marked-and-counted (board-crowd-cover (table .head) (table .part Operators) (table .part Rides) presence t guests (replicate places 7))
 
 -- three bands, the lowest in the middle, the one of guest count 0 alone
 abbrev three : Bands
@@ -400,6 +401,65 @@ crowd-samples =
     (crowd-asked (1 ∷ 1 ∷ 0 ∷ 1 ∷ 1 ∷ 1 ∷ 1 ∷ []) three 0 7, 0 ∷ 3 ∷ 3 ∷ 1 ∷ 1 ∷ 0 ∷ 1 ∷ 1 ∷ 1 ∷ 1 ∷ []) ∷
     (crowd-asked (replicate 7 1) touching 0 8, 17 ∷ 0 ∷ 0 ∷ replicate 8 7) ∷
     (crowd-asked (replicate 7 1) touching 0 6, 3 ∷ 0 ∷ 0 ∷ replicate 6 7) ∷
+    []
+
+-- a park with a coaster, a carousel and a third ride: operators 0 to 4 are cleared for the coaster, 4 and 5 for the carousel, 5 for the third
+abbrev park : List ℕ → List ℕ → ℕ → ℕ → ℕ → QueryOutcome
+park presence minimums α β places =
+    board-own-cover (record { operators = 6; rides = 3; pairs = 8 })
+    (0 ∷ 1 ∷ 2 ∷ 3 ∷ 4 ∷ 4 ∷ 5 ∷ 5 ∷ replicate 10 9)
+    (0 ∷ 0 ∷ 0 ∷ 0 ∷ 0 ∷ 1 ∷ 1 ∷ 2 ∷ replicate 10 9)
+    presence minimums α β (replicate places 7)
+
+-- what its cover with minimums gives with everybody present, and without operator 0
+abbrev all-here : List ℕ → ℕ → ℕ → List ℕ
+all-here minimums α β = marked-and-counted (park (replicate 9 1) minimums α β 10)
+
+abbrev without-0 : List ℕ → ℕ → ℕ → List ℕ
+without-0 minimums α β = marked-and-counted (park (0 ∷ replicate 8 1) minimums α β 9)
+
+-- what the cover with minimums gives on document 01's board, with a number of pairs of its own
+abbrev own-asked : List ℕ → ℕ → ℕ → ℕ → List ℕ
+own-asked minimums α β pairs =
+    marked-and-counted
+    (board-own-cover (record { operators = 4; rides = 3; pairs = pairs }) (table .part Operators) (table .part Rides) (replicate 7 1) minimums α β (replicate 7 7))
+
+-- what a peel of it gives from these marks
+abbrev own-peeled : List ℕ → List ℕ → ℕ → ℕ → ℕ → List ℕ
+own-peeled minimums marks α β allowed =
+    let o = board-peel (table .head) (table .part Operators) (table .part Rides) (replicate 7 1) minimums marks α β allowed in
+    o .answer .code ∷ o .answer .settled ∷ o .answer .steps ∷ o .marks
+
+-- minimums, by hand. In the park the coaster needs five and the carousel two: with (1,3) both run, the third ride, with 1 operator, doesn't;
+-- without minimums the coaster alone. Without operator 0 the coaster falls short of five, and operators 1, 2, 3 have no ride; without minimums it
+-- runs with four. With β = 0 the third ride runs too. With α = 2 operators 4 and 5 alone have two rides; a carousel that needs three takes all along.
+-- A minimum of 65535 is never met. The tenth mark stays.
+-- On document 01's board: document 02's samples of 2.8 by (1,3) and (1,2); words behind the rides' minimums aren't read. All minimums 2 are cover
+-- (1,2), whatever β is. A list of two is 3, also where 4 applies, which comes with three.
+-- A peel (1,3) with minimum 2 at ride 0 drops ride 2, then operator 3; without it rides 0 and 2, then operator 3. Without operator 2 from the start, and with
+-- minimum 2 at rides 0 and 1, ride 2 and operator 3 go. A short list is 3, and leaves the marks.
+unfoldable pub minimum-samples : List (List ℕ × List ℕ)
+minimum-samples =
+    (all-here (5 ∷ 2 ∷ 0 ∷ []) 1 3, 0 ∷ 6 ∷ 2 ∷ 1 ∷ 1 ∷ 1 ∷ 1 ∷ 1 ∷ 1 ∷ 1 ∷ 1 ∷ 0 ∷ 7 ∷ []) ∷
+    (all-here (replicate 3 0) 1 3, 0 ∷ 5 ∷ 1 ∷ 1 ∷ 1 ∷ 1 ∷ 1 ∷ 1 ∷ 0 ∷ 1 ∷ 0 ∷ 0 ∷ 7 ∷ []) ∷
+    (without-0 (5 ∷ 2 ∷ 0 ∷ []) 1 3, 0 ∷ 2 ∷ 1 ∷ 0 ∷ 0 ∷ 0 ∷ 0 ∷ 1 ∷ 1 ∷ 0 ∷ 1 ∷ 0 ∷ []) ∷
+    (without-0 (replicate 3 0) 1 3, 0 ∷ 4 ∷ 1 ∷ 0 ∷ 1 ∷ 1 ∷ 1 ∷ 1 ∷ 0 ∷ 1 ∷ 0 ∷ 0 ∷ []) ∷
+    (all-here (5 ∷ 2 ∷ 0 ∷ []) 1 0, 0 ∷ 6 ∷ 3 ∷ replicate 9 1 ++ 7 ∷ []) ∷
+    (all-here (0 ∷ 2 ∷ 0 ∷ []) 2 1, 0 ∷ 2 ∷ 3 ∷ 0 ∷ 0 ∷ 0 ∷ 0 ∷ 1 ∷ 1 ∷ 1 ∷ 1 ∷ 1 ∷ 7 ∷ []) ∷
+    (all-here (0 ∷ 3 ∷ 0 ∷ []) 2 1, 0 ∷ 0 ∷ 0 ∷ replicate 9 0 ++ 7 ∷ []) ∷
+    (all-here (65535 ∷ 0 ∷ 0 ∷ []) 0 0, 0 ∷ 6 ∷ 2 ∷ 1 ∷ 1 ∷ 1 ∷ 1 ∷ 1 ∷ 1 ∷ 0 ∷ 1 ∷ 1 ∷ 7 ∷ []) ∷
+    (own-asked (2 ∷ 0 ∷ 0 ∷ []) 1 3 7, 0 ∷ 3 ∷ 2 ∷ 1 ∷ 1 ∷ 1 ∷ 0 ∷ 1 ∷ 1 ∷ 0 ∷ []) ∷
+    (own-asked (0 ∷ 4 ∷ 0 ∷ 9 ∷ []) 1 2 7, 0 ∷ 4 ∷ 2 ∷ 1 ∷ 1 ∷ 1 ∷ 1 ∷ 1 ∷ 0 ∷ 1 ∷ []) ∷
+    (own-asked (2 ∷ 2 ∷ 2 ∷ []) 1 9 7, 0 ∷ 4 ∷ 3 ∷ replicate 7 1) ∷
+    (own-asked (replicate 3 0) 1 3 7, 0 ∷ 3 ∷ 1 ∷ 1 ∷ 1 ∷ 1 ∷ 0 ∷ 0 ∷ 1 ∷ 0 ∷ []) ∷
+    (own-asked (2 ∷ 2 ∷ []) 1 3 7, 3 ∷ 0 ∷ 0 ∷ replicate 7 7) ∷
+    (own-asked (2 ∷ 2 ∷ []) 1 3 13, 3 ∷ 0 ∷ 0 ∷ replicate 7 7) ∷
+    (own-asked (2 ∷ 2 ∷ 2 ∷ []) 1 3 13, 4 ∷ 0 ∷ 0 ∷ replicate 7 7) ∷
+    (own-peeled (2 ∷ 0 ∷ 0 ∷ []) (replicate 7 1) 1 3 7, 0 ∷ 1 ∷ 2 ∷ 1 ∷ 1 ∷ 1 ∷ 0 ∷ 1 ∷ 1 ∷ 0 ∷ []) ∷
+    (own-peeled (2 ∷ 0 ∷ 0 ∷ []) (replicate 7 1) 1 3 1, 0 ∷ 0 ∷ 1 ∷ 1 ∷ 1 ∷ 1 ∷ 1 ∷ 1 ∷ 1 ∷ 0 ∷ []) ∷
+    (own-peeled (replicate 3 0) (replicate 7 1) 1 3 7, 0 ∷ 1 ∷ 3 ∷ 1 ∷ 1 ∷ 1 ∷ 0 ∷ 0 ∷ 1 ∷ 0 ∷ []) ∷
+    (own-peeled (2 ∷ 2 ∷ 0 ∷ []) (1 ∷ 1 ∷ 0 ∷ 1 ∷ 1 ∷ 1 ∷ 1 ∷ []) 1 3 7, 0 ∷ 1 ∷ 2 ∷ 1 ∷ 1 ∷ 0 ∷ 0 ∷ 1 ∷ 1 ∷ 0 ∷ []) ∷
+    (own-peeled (2 ∷ 0 ∷ []) (replicate 7 1) 1 3 7, 3 ∷ 0 ∷ 0 ∷ replicate 7 1) ∷
     []
 
 -- in each row of a table the two lists are equal
