@@ -11,9 +11,10 @@
  *
  * A line of the trace is `KIND OPERATOR RIDE REVISION STAMP`, all numbers, kind 1 a grant, 2 a withdrawal, 3 operator
  * on, 4 operator off, 5 ride in, 6 ride out; what follows a # is a comment. After the last message the permits for a
- * quiet and for a busy guest count are printed, by a table of bands, and the answer to a table with an overlap. At the
- * end the same messages are given to a second board in the order of their stamps and revisions, as one message list.
- * Exit status 0 says that the two boards are the same, word for word.
+ * quiet and for a busy guest count are printed, by a table of bands, and the answer to a table with an overlap; then
+ * the permits where rides have minimums, and the answer to a list with a ride too few. At the end the same messages are
+ * given to a second board in the order of their stamps and revisions, as one message list. Exit status 0 says that the
+ * two boards are the same, word for word.
  */
 #include <stdio.h>
 #include <stdlib.h>
@@ -40,6 +41,11 @@ static Board spare = BOARD_OVER(spare_memory, OPERATORS, RIDES, 0);
 /* Limits by crowd: first and last guest count, alpha, beta. In the second table both bands have guest count 8,000. */
 static const BoardBand day[] = {{8001, 20000, 2, 3}, {0, 8000, 1, 2}};
 static const BoardBand overlapping[] = {{8000, 20000, 2, 3}, {0, 8000, 1, 2}};
+
+/* Minimums of the rides, 0 for none. Ride 2 as a coaster needs four operators, ride 0 as a carousel two. */
+static const uint16_t none[BOARD_MINIMUM_PLACES(RIDES)] = {0, 0, 0};
+static const uint16_t coaster[BOARD_MINIMUM_PLACES(RIDES)] = {0, 0, 4};
+static const uint16_t carousel[BOARD_MINIMUM_PLACES(RIDES)] = {2, 0, 0};
 
 static BoardMessage trace[MESSAGES_MOST];
 static uint16_t answers[BOARD_ANSWER_PLACES(MESSAGES_MOST)];
@@ -74,7 +80,7 @@ static void print_permits(const char *when, const Board *board, uint16_t alpha, 
     check(board_query_on(board, alpha, beta, marks, BOARD_LENGTH(marks)).code);
     for (size_t i = 0; i < BOARD_LENGTH(peeled); i++)
         peeled[i] = 1;
-    check(board_peel_on(board, peeled, BOARD_LENGTH(peeled), alpha, beta, OPERATORS + RIDES).code);
+    check(board_peel_on(board, none, RIDES, peeled, BOARD_LENGTH(peeled), alpha, beta, OPERATORS + RIDES).code);
     if (memcmp(marks, peeled, sizeof marks) != 0)
         stop("the board is damaged: its index is not that of its pairs that count");
     print_rides(when);
@@ -90,6 +96,21 @@ static void print_crowd(const Board *board, BoardBands bands, uint16_t guests) {
     check_beta(limits.beta);
     check(board_crowd_cover_on(board, bands, guests, marks, BOARD_LENGTH(marks)).code);
     printf("guests %u: limits (%u,%u)\n", guests, limits.alpha, limits.beta);
+    print_rides("permits");
+}
+
+/* Whether each ride gets its dispatch permit with these minimums. An own cover does not use the index either. */
+static void print_own(const Board *board, const uint16_t *minimums, size_t length, uint16_t alpha, uint16_t beta) {
+    check_beta(beta);
+    BoardCounts counts = board_own_cover_on(board, minimums, length, alpha, beta, marks, BOARD_LENGTH(marks));
+    printf("minimums");
+    for (size_t ride = 0; ride < length; ride++)
+        printf(" %u", minimums[ride]);
+    if (counts.code != BOARD_DONE) {
+        printf(": %u, %s\n", counts.code, board_text(counts.code));
+        return;
+    }
+    printf(": limits (%u,%u)\n", alpha, beta);
     print_rides("permits");
 }
 
@@ -258,6 +279,9 @@ int main(int count, char **words) {
     print_crowd(&arriving, board_bands(day, BOARD_LENGTH(day)), 1500);
     print_crowd(&arriving, board_bands(day, BOARD_LENGTH(day)), 18000);
     print_crowd(&arriving, board_bands(overlapping, BOARD_LENGTH(overlapping)), 18000);
+    print_own(&arriving, coaster, RIDES, 2, 2);
+    print_own(&arriving, carousel, RIDES, 2, 3);
+    print_own(&arriving, carousel, RIDES - 1, 2, 3);
 
     check(board_build_on(&in_order, START));
     qsort(trace, messages, sizeof trace[0], by_stamp);

@@ -1,9 +1,10 @@
 /*
  * The plain calls beside the functions over a Board: both ways on equal memory, with parts as long as needed, with one
- * part after another too short by a place, and with limits of 0. Query, peel and crowd cover come twice: after the
- * build, with everybody on and in, and after the list, with operator 1 off and ride 2 out. The crowd cover finds the
- * limits of the query in its table. At the end come look-ups in tables of no band to too many. Prints what the calls
- * answer. Exit status 0 says that each answer and every lent word was the same both ways.
+ * part after another too short by a place, with limits of 0, and with minimums. Query, peel, own cover and crowd cover
+ * come twice: after the build, with everybody on and in, and after the list, with operator 1 off and ride 2 out. The
+ * crowd cover finds the limits of the query in its table, and knows no minimums either. At the end come look-ups in
+ * tables of no band to too many. Prints what the calls answer. Exit status 0 says that each answer and every lent word
+ * was the same both ways.
  */
 #include <stdio.h>
 #include <string.h>
@@ -48,40 +49,46 @@ typedef struct Lengths {
     size_t operators, rides, stamps, revisions, index, presence_stamps, presence_revisions, presence;
 } Lengths;
 
-/* The lengths that are lent, in places, and the limits of query and peel. */
+/* The lengths that are lent, in places, the limits of query and peel, and the minimums of peel and own cover. */
 typedef struct Given {
     const char *title;
     Lengths board, spare;
-    size_t marks, answers;
+    size_t marks, answers, minimums_length;
     uint16_t alpha, beta;
+    uint16_t minimums[BOARD_MINIMUM_PLACES(RIDES)];
 } Given;
 
 #define NEEDED {12, 12, 12, 12, 21, 7, 7, 7}
+#define NONE {0, 0, 0}
 
 static const Given rows[] = {
-    {"as needed", NEEDED, NEEDED, 7, 7, 1, 3},
-    {"operators short", {11, 12, 12, 12, 21, 7, 7, 7}, NEEDED, 7, 7, 1, 3},
-    {"rides short", {12, 11, 12, 12, 21, 7, 7, 7}, NEEDED, 7, 7, 1, 3},
-    {"stamps short", {12, 12, 11, 12, 21, 7, 7, 7}, NEEDED, 7, 7, 1, 3},
-    {"revisions short", {12, 12, 12, 11, 21, 7, 7, 7}, NEEDED, 7, 7, 1, 3},
-    {"index short", {12, 12, 12, 12, 20, 7, 7, 7}, NEEDED, 7, 7, 1, 3},
-    {"presence stamps short", {12, 12, 12, 12, 21, 6, 7, 7}, NEEDED, 7, 7, 1, 3},
-    {"presence revisions short", {12, 12, 12, 12, 21, 7, 6, 7}, NEEDED, 7, 7, 1, 3},
-    {"presence short", {12, 12, 12, 12, 21, 7, 7, 6}, NEEDED, 7, 7, 1, 3},
-    {"spare operators short", NEEDED, {11, 12, 12, 12, 21, 7, 7, 7}, 7, 7, 1, 3},
-    {"spare rides short", NEEDED, {12, 11, 12, 12, 21, 7, 7, 7}, 7, 7, 1, 3},
-    {"spare stamps short", NEEDED, {12, 12, 11, 12, 21, 7, 7, 7}, 7, 7, 1, 3},
-    {"spare revisions short", NEEDED, {12, 12, 12, 11, 21, 7, 7, 7}, 7, 7, 1, 3},
-    {"spare index short", NEEDED, {12, 12, 12, 12, 20, 7, 7, 7}, 7, 7, 1, 3},
-    {"spare presence stamps short", NEEDED, {12, 12, 12, 12, 21, 6, 7, 7}, 7, 7, 1, 3},
-    {"spare presence revisions short", NEEDED, {12, 12, 12, 12, 21, 7, 6, 7}, 7, 7, 1, 3},
-    {"spare presence short", NEEDED, {12, 12, 12, 12, 21, 7, 7, 6}, 7, 7, 1, 3},
-    {"marks short", NEEDED, NEEDED, 6, 7, 1, 3},
-    {"answers short", NEEDED, NEEDED, 7, 6, 1, 3},
-    {"alpha 0, beta 3", NEEDED, NEEDED, 7, 7, 0, 3},
-    {"alpha 2, beta 0", NEEDED, NEEDED, 7, 7, 2, 0},
-    {"alpha 4, beta 0", NEEDED, NEEDED, 7, 7, 4, 0},
-    {"alpha 0, beta 0", NEEDED, NEEDED, 7, 7, 0, 0},
+    {"as needed", NEEDED, NEEDED, 7, 7, 3, 1, 3, NONE},
+    {"operators short", {11, 12, 12, 12, 21, 7, 7, 7}, NEEDED, 7, 7, 3, 1, 3, NONE},
+    {"rides short", {12, 11, 12, 12, 21, 7, 7, 7}, NEEDED, 7, 7, 3, 1, 3, NONE},
+    {"stamps short", {12, 12, 11, 12, 21, 7, 7, 7}, NEEDED, 7, 7, 3, 1, 3, NONE},
+    {"revisions short", {12, 12, 12, 11, 21, 7, 7, 7}, NEEDED, 7, 7, 3, 1, 3, NONE},
+    {"index short", {12, 12, 12, 12, 20, 7, 7, 7}, NEEDED, 7, 7, 3, 1, 3, NONE},
+    {"presence stamps short", {12, 12, 12, 12, 21, 6, 7, 7}, NEEDED, 7, 7, 3, 1, 3, NONE},
+    {"presence revisions short", {12, 12, 12, 12, 21, 7, 6, 7}, NEEDED, 7, 7, 3, 1, 3, NONE},
+    {"presence short", {12, 12, 12, 12, 21, 7, 7, 6}, NEEDED, 7, 7, 3, 1, 3, NONE},
+    {"spare operators short", NEEDED, {11, 12, 12, 12, 21, 7, 7, 7}, 7, 7, 3, 1, 3, NONE},
+    {"spare rides short", NEEDED, {12, 11, 12, 12, 21, 7, 7, 7}, 7, 7, 3, 1, 3, NONE},
+    {"spare stamps short", NEEDED, {12, 12, 11, 12, 21, 7, 7, 7}, 7, 7, 3, 1, 3, NONE},
+    {"spare revisions short", NEEDED, {12, 12, 12, 11, 21, 7, 7, 7}, 7, 7, 3, 1, 3, NONE},
+    {"spare index short", NEEDED, {12, 12, 12, 12, 20, 7, 7, 7}, 7, 7, 3, 1, 3, NONE},
+    {"spare presence stamps short", NEEDED, {12, 12, 12, 12, 21, 6, 7, 7}, 7, 7, 3, 1, 3, NONE},
+    {"spare presence revisions short", NEEDED, {12, 12, 12, 12, 21, 7, 6, 7}, 7, 7, 3, 1, 3, NONE},
+    {"spare presence short", NEEDED, {12, 12, 12, 12, 21, 7, 7, 6}, 7, 7, 3, 1, 3, NONE},
+    {"marks short", NEEDED, NEEDED, 6, 7, 3, 1, 3, NONE},
+    {"answers short", NEEDED, NEEDED, 7, 6, 3, 1, 3, NONE},
+    {"minimums short", NEEDED, NEEDED, 7, 7, 2, 1, 3, NONE},
+    {"alpha 0, beta 3", NEEDED, NEEDED, 7, 7, 3, 0, 3, NONE},
+    {"alpha 2, beta 0", NEEDED, NEEDED, 7, 7, 3, 2, 0, NONE},
+    {"alpha 4, beta 0", NEEDED, NEEDED, 7, 7, 3, 4, 0, NONE},
+    {"alpha 0, beta 0", NEEDED, NEEDED, 7, 7, 3, 0, 0, NONE},
+    {"beta 3, minimum 2 at ride 0", NEEDED, NEEDED, 7, 7, 3, 1, 3, {2, 0, 0}},
+    {"beta 2, minimum 4 at ride 1", NEEDED, NEEDED, 7, 7, 3, 1, 2, {0, 4, 0}},
+    {"beta 0, minimums 3 2 1", NEEDED, NEEDED, 7, 7, 3, 1, 0, {3, 2, 1}},
 };
 
 /* What the calls answer, and the lent words outside the storage. */
@@ -92,6 +99,8 @@ typedef struct Outcome {
     uint16_t queried[MARKS];
     BoardPeeled peel;
     uint16_t peeled[MARKS];
+    BoardCounts own;
+    uint16_t own_marks[MARKS];
     BoardCounts crowd;
     uint16_t crowded[MARKS];
     BoardAnswer preview;
@@ -103,6 +112,8 @@ typedef struct Outcome {
     uint16_t queried_again[MARKS];
     BoardPeeled peel_again;
     uint16_t peeled_again[MARKS];
+    BoardCounts own_again;
+    uint16_t own_marks_again[MARKS];
     BoardCounts crowd_again;
     uint16_t crowded_again[MARKS];
 } Outcome;
@@ -116,6 +127,8 @@ static const Outcome before = {
     {1, 1, 1, 1, 1, 1, 1},
     {0, 0, 0},
     {9, 9, 9, 9, 9, 9, 9},
+    {0, 0, 0},
+    {9, 9, 9, 9, 9, 9, 9},
     {0, 0},
     {9, 9, 9},
     {0, 0},
@@ -125,6 +138,8 @@ static const Outcome before = {
     {9, 9, 9, 9, 9, 9, 9},
     {0, 0, 0},
     {1, 1, 1, 1, 1, 1, 1},
+    {0, 0, 0},
+    {9, 9, 9, 9, 9, 9, 9},
     {0, 0, 0},
     {9, 9, 9, 9, 9, 9, 9},
 };
@@ -154,14 +169,20 @@ static Outcome over_a_board(const Given *given) {
     Board board = lend(whole, given->board), spare = lend(whole_spare, given->spare);
     out.build = board_build_on(&board, 10);
     out.query = board_query_on(&board, given->alpha, given->beta, out.queried, given->marks);
-    out.peel = board_peel_on(&board, out.peeled, given->marks, given->alpha, given->beta, 2);
+    out.peel = board_peel_on(&board, given->minimums, given->minimums_length, out.peeled, given->marks, given->alpha,
+                             given->beta, 2);
+    out.own = board_own_cover_on(&board, given->minimums, given->minimums_length, given->alpha, given->beta,
+                                 out.own_marks, given->marks);
     out.crowd = board_crowd_cover_on(&board, two_bands(given), GUESTS, out.crowded, given->marks);
     out.preview = board_preview_on(&board, grant, &spare);
     out.spare_head = spare.head;
     out.message = board_message_on(&board, grant);
     out.messages = board_messages_on(&board, list, MESSAGES, out.answers, given->answers);
     out.query_again = board_query_on(&board, given->alpha, given->beta, out.queried_again, given->marks);
-    out.peel_again = board_peel_on(&board, out.peeled_again, given->marks, given->alpha, given->beta, 2);
+    out.peel_again = board_peel_on(&board, given->minimums, given->minimums_length, out.peeled_again, given->marks,
+                                   given->alpha, given->beta, 2);
+    out.own_again = board_own_cover_on(&board, given->minimums, given->minimums_length, given->alpha, given->beta,
+                                       out.own_marks_again, given->marks);
     out.crowd_again = board_crowd_cover_on(&board, two_bands(given), GUESTS, out.crowded_again, given->marks);
     out.head = board.head;
     return out;
@@ -177,7 +198,11 @@ static Outcome plainly(const Given *given) {
     out.query = board_query(out.head, other.index, n.index, other.presence, n.presence, given->alpha, given->beta,
                             out.queried, given->marks);
     out.peel = board_peel(out.head, other.operators, n.operators, other.rides, n.rides, other.presence, n.presence,
-                          out.peeled, given->marks, given->alpha, given->beta, 2);
+                          given->minimums, given->minimums_length, out.peeled, given->marks, given->alpha, given->beta,
+                          2);
+    out.own = board_own_cover(out.head, other.operators, n.operators, other.rides, n.rides, other.presence, n.presence,
+                              given->minimums, given->minimums_length, given->alpha, given->beta, out.own_marks,
+                              given->marks);
     out.crowd = board_crowd_cover(out.head, other.operators, n.operators, other.rides, n.rides, other.presence,
                                   n.presence, two_bands(given), GUESTS, out.crowded, given->marks);
     out.preview = board_preview(
@@ -198,32 +223,36 @@ static Outcome plainly(const Given *given) {
     out.query_again = board_query(out.head, other.index, n.index, other.presence, n.presence, given->alpha,
                                   given->beta, out.queried_again, given->marks);
     out.peel_again = board_peel(out.head, other.operators, n.operators, other.rides, n.rides, other.presence,
-                                n.presence, out.peeled_again, given->marks, given->alpha, given->beta, 2);
+                                n.presence, given->minimums, given->minimums_length, out.peeled_again, given->marks,
+                                given->alpha, given->beta, 2);
+    out.own_again = board_own_cover(out.head, other.operators, n.operators, other.rides, n.rides, other.presence,
+                                    n.presence, given->minimums, given->minimums_length, given->alpha, given->beta,
+                                    out.own_marks_again, given->marks);
     out.crowd_again = board_crowd_cover(out.head, other.operators, n.operators, other.rides, n.rides, other.presence,
                                         n.presence, two_bands(given), GUESTS, out.crowded_again, given->marks);
     return out;
 }
 
-static void print_marked(BoardCounts query, BoardPeeled peel, BoardCounts crowd) {
+static void print_marked(BoardCounts query, BoardPeeled peel, BoardCounts own, BoardCounts crowd) {
     printf(" %6u: %u + %u %6u: %5u", query.code, query.operators, query.rides, peel.code, peel.steps);
-    printf(" %6u: %u + %u", crowd.code, crowd.operators, crowd.rides);
+    printf(" %5u: %u + %u %6u: %u + %u", own.code, own.operators, own.rides, crowd.code, crowd.operators, crowd.rides);
 }
 
 static void print_outcome(const char *title, const Outcome *out, int same) {
     printf("%-30s %5u", title, out->build);
-    print_marked(out->query, out->peel, out->crowd);
+    print_marked(out->query, out->peel, out->own, out->crowd);
     printf("  %8u: %5u %8u: %5u %5u:", out->preview.code, out->preview.differ, out->message.code, out->message.differ,
            out->messages);
     for (size_t i = 0; i < MESSAGES; i++)
         printf(" %2u", out->answers[i]);
-    print_marked(out->query_again, out->peel_again, out->crowd_again);
+    print_marked(out->query_again, out->peel_again, out->own_again, out->crowd_again);
     printf("   %s\n", same ? "the same" : "ANOTHER");
 }
 
 int main(void) {
     int differs = 0;
-    printf("%-30s build  query: marked  peel: steps  crowd: marked  preview: words  message: words", "");
-    printf("  list: answers               query: marked  peel: steps  crowd: marked\n");
+    printf("%-30s build  query: marked  peel: steps  own: marked  crowd: marked  preview: words  message: words", "");
+    printf("  list: answers               query: marked  peel: steps  own: marked  crowd: marked\n");
     for (size_t i = 0; i < BOARD_LENGTH(rows); i++) {
         memcpy(&memory, &table, sizeof memory);
         memcpy(&other, &table, sizeof other);

@@ -1,5 +1,5 @@
 /*
- * The crew cover board: its eight calls for C11 and C++ on x86-64, in the static library libboard.a.
+ * The crew cover board: its nine calls for C11 and C++ on x86-64, in the static library libboard.a.
  *
  * A board says which operator is cleared for which ride, which operators are on shift and which rides are in service.
  * Operators have the numbers 0 to operators - 1, rides 0 to rides - 1. A pair of an operator and a ride counts if it is
@@ -36,6 +36,12 @@
  *     BoardBands bands = board_bands(list, BOARD_LENGTH(list));
  *     counts = board_crowd_cover_on(&board, bands, guests, marks, BOARD_LENGTH(marks));
  *
+ * Minimums: a ride may need more or fewer operators than beta says. Here ride 4 needs two and ride 5 five; 0 is none,
+ * and every other ride needs beta, three:
+ *
+ *     static const uint16_t minimums[BOARD_MINIMUM_PLACES(60)] = {0, 0, 0, 0, 2, 5};
+ *     counts = board_own_cover_on(&board, minimums, BOARD_LENGTH(minimums), 2, 3, marks, BOARD_LENGTH(marks));
+ *
  * The functions that end in _on lend a Board's parts to the plain calls, which take each part as a pointer to its first
  * place and the number of its places.
  *
@@ -51,15 +57,15 @@
  *
  * For firmware (docs/INTERFACE.md says more):
  * - x86-64, System V calling convention, SSE2 and no more; no use of the red zone below the stack pointer.
- * - Deepest stack in bytes, measured at 200 x 60 (docs/BENCHMARK.md): build 26,112, query 144, peel 26,320, look-up
- *   128, crowd cover 26,160, message 26,160, message list 26,256, preview 26,320.
+ * - Deepest stack in bytes, measured at 200 x 60 (docs/BENCHMARK.md): build 26,112, query 144, peel 26,336, own cover
+ *   26,256, look-up 128, crowd cover 26,432, message 26,160, message list 26,256, preview 26,320.
  * - No writable data; of the program it needs memcpy, memmove and memset at most.
  * - A reset in the middle of a call leaves a mixture of old and new words in what the call writes: build again from a
  *   pair table, and send the messages again. A preview writes the spare memory alone.
  * - Time grows with rides x rides x (operators + rides) for build and message, for a message list as for one message
  *   and with messages x pairs, for a preview as for one message and one copy of the board, with operators + rides for a
- *   query, with operators x rides + steps x (operators + rides) for a peel, for a crowd cover as for such a peel from
- *   all ones, with bands x bands for a look-up.
+ *   query, with operators x rides + steps x (operators + rides) for a peel, for an own cover and a crowd cover as for
+ *   such a peel from all ones, with bands x bands for a look-up.
  */
 #ifndef BOARD_H
 #define BOARD_H
@@ -76,8 +82,8 @@ extern "C" {
 #endif
 
 /* The version of this header (docs/CHANGELOG.md), as a number to compare: 1.2.3 is 10203. */
-#define BOARD_VERSION_MAJOR 3
-#define BOARD_VERSION_MINOR 1
+#define BOARD_VERSION_MAJOR 4
+#define BOARD_VERSION_MINOR 0
 #define BOARD_VERSION_PATCH 0
 #define BOARD_VERSION (BOARD_VERSION_MAJOR * 10000 + BOARD_VERSION_MINOR * 100 + BOARD_VERSION_PATCH)
 
@@ -118,6 +124,9 @@ extern "C" {
 
 /* The marks: each operator, then each ride. */
 #define BOARD_MARK_PLACES(operators, rides) ((size_t)(operators) + (size_t)(rides))
+
+/* The minimums: each ride, from place 0 on. Operators have none. */
+#define BOARD_MINIMUM_PLACES(rides) ((size_t)(rides))
 
 /* The answer list of a message list. */
 #define BOARD_ANSWER_PLACES(messages) ((size_t)(messages))
@@ -194,7 +203,7 @@ typedef struct BoardHead {
     uint16_t pairs;
 } BoardHead;
 
-/* What a query or a crowd cover answers: the number, and how many operators and rides it marked. */
+/* What a query, an own cover or a crowd cover answers: the number, and how many operators and rides it marked. */
 typedef struct BoardCounts {
     uint16_t code;
     uint16_t operators;
@@ -324,7 +333,8 @@ uint16_t board_build(BoardHead head, uint16_t *operators, size_t operators_lengt
  * counts 0. An index that is too short is 3 also where no level decides. A refusal leaves every lent word as it was.
  *
  * Never take a dispatch permit from beta 0: every ride that is in is then marked, also one that no operator is cleared
- * for. A permit needs a query, peel or crowd cover with beta from 1.
+ * for. A permit needs a query, peel or cover with beta from 1. A query knows no minimums: where rides have them,
+ * permits come from an own cover.
  *
  * Index and presence words are those of one board, as its last build or message left them: the levels already leave out
  * the pairs of whoever is off or out. With presence words of another board, or with a word that was written without a
@@ -332,9 +342,9 @@ uint16_t board_build(BoardHead head, uint16_t *operators, size_t operators_lengt
  *
  * A damaged index gives permits: where a word of the row was set to 60,000, say, its operator or ride is marked, if it
  * is on or in. All operators who are on where alpha is 0, and all rides that are in where beta is 0, are marked
- * whatever the index holds. To check the marks, peel all ones on the same board under the same limits with operators +
- * rides steps: this gives the cover from the pair arrays and the presence words alone, and its marks must equal the
- * query's.
+ * whatever the index holds. To check the marks, peel all ones on the same board under the same limits with minimums of
+ * 0 and operators + rides steps: this gives the cover from the pair arrays and the presence words alone, and its marks
+ * must equal the query's.
  */
 BoardCounts board_query(BoardHead head, const uint16_t *index, size_t index_length, const uint16_t *presence,
                         size_t presence_length, uint16_t alpha, uint16_t beta, uint16_t *marks, size_t marks_length);
@@ -342,24 +352,49 @@ BoardCounts board_query(BoardHead head, const uint16_t *index, size_t index_leng
 /*
  * Peel: drops whoever falls short, one step at a time, with no use of the index.
  *
- * Reads the head, the listed pairs, the presence words and the marks, each 0 or 1. One step clears the mark of the
- * lowest-numbered marked operator who is off or has fewer than alpha marked rides; if there is none, of the
- * lowest-numbered marked ride that is out or has fewer than beta marked operators. Only pairs that count are counted. A
- * limit of 0 is no limit: only whoever is off or out falls short of it. So a peel with beta 0 keeps every marked ride
- * that is in, and no dispatch permit comes from it.
+ * Reads the head, the listed pairs, the presence words, the marks, each 0 or 1, and the minimums. The minimum of ride v
+ * stands at place v, 0 for none; lend zeros where no ride has one. The limit of a ride is its own minimum, also where
+ * that is smaller than beta, and beta where it has none. One step clears the mark of the lowest-numbered marked
+ * operator who is off or has fewer than alpha marked rides; if there is none, of the lowest-numbered marked ride that
+ * is out or has fewer marked operators than its limit. Only pairs that count are counted. A limit of 0 is no limit:
+ * only whoever is off or out falls short of it. So a peel with beta 0 keeps every marked ride that is in and has no
+ * minimum, and no dispatch permit for such a ride comes from it.
  *
  * Writes the marks as the steps leave them, at most `steps` of them. Whoever is off or out takes a step like anybody
  * else, and stays marked where the steps do not suffice.
  *
  * Answers BOARD_DONE with BOARD_SETTLED when nobody falls short, or with BOARD_UNSETTLED exactly if all allowed steps
- * were taken and somebody still falls short, and with the steps taken. Settled marks are the largest set inside the
- * marks that came in; from all ones that is cover (alpha, beta). Or of 1 to 5 and 12 the lowest that applies, with
- * settled and steps 0; 12 looks at the marks of those who are off or out too. A refusal leaves every lent word as it
- * was.
+ * were taken and somebody still falls short, and with the steps taken. Settled marks are the largest set under these
+ * limits inside the marks that came in. From all ones that is cover (alpha, beta) where all minimums are 0, and cover
+ * (alpha, m) where all are the same m from 1. Or of 1 to 5 and 12 the lowest that applies, with settled and steps 0; 12
+ * looks at the marks of those who are off or out too. A refusal leaves every lent word as it was.
  */
 BoardPeeled board_peel(BoardHead head, const uint16_t *operators, size_t operators_length, const uint16_t *rides,
-                       size_t rides_length, const uint16_t *presence, size_t presence_length, uint16_t *marks,
-                       size_t marks_length, uint16_t alpha, uint16_t beta, uint16_t steps);
+                       size_t rides_length, const uint16_t *presence, size_t presence_length, const uint16_t *minimums,
+                       size_t minimums_length, uint16_t *marks, size_t marks_length, uint16_t alpha, uint16_t beta,
+                       uint16_t steps);
+
+/*
+ * Own cover: who is in the cover with minimums, the largest set in which each operator has at least alpha rides of the
+ * set and each ride at least as many operators of it as its limit, found by a peel from all ones. A limit of 0 is no
+ * limit.
+ *
+ * Reads the head, the listed pairs, the presence words and the minimums as a peel does. It uses no index, so that a
+ * damaged one does not matter, and the marks that come in are not read.
+ *
+ * Writes a mark for each operator, then each ride, 1 for those in the cover and 0 for all others. Nobody who is off or
+ * out is marked, under limits of 0 neither. Where all minimums are 0 this is cover (alpha, beta), and where all are the
+ * same m from 1 cover (alpha, m): the marks are those of a query, if the index is that of the board.
+ *
+ * Answers BOARD_DONE with the counts of operators and rides marked, or of 1 to 5 the lowest that applies, with counts
+ * 0. A refusal leaves every lent word as it was.
+ *
+ * A dispatch permit needs a limit from 1 for its ride: a minimum of its own, or a beta from 1.
+ */
+BoardCounts board_own_cover(BoardHead head, const uint16_t *operators, size_t operators_length, const uint16_t *rides,
+                            size_t rides_length, const uint16_t *presence, size_t presence_length,
+                            const uint16_t *minimums, size_t minimums_length, uint16_t alpha, uint16_t beta,
+                            uint16_t *marks, size_t marks_length);
 
 /*
  * Look-up: the limits of the band that a guest count falls in.
@@ -387,7 +422,8 @@ BoardCrowdLimits board_crowd_limits(BoardBands bands, uint16_t guests);
  * Answers BOARD_DONE with the counts of operators and rides marked, or of 1 to 5 and 16 to 18 the lowest that applies,
  * with counts 0. A refusal leaves every lent word as it was.
  *
- * A dispatch permit needs a beta from 1: look the limits up, and take no permit from a band with beta 0.
+ * A crowd cover knows no minimums: the limits of the band hold for every ride. A dispatch permit needs a beta from 1:
+ * look the limits up, and take no permit from a band with beta 0.
  */
 BoardCounts board_crowd_cover(BoardHead head, const uint16_t *operators, size_t operators_length, const uint16_t *rides,
                               size_t rides_length, const uint16_t *presence, size_t presence_length, BoardBands bands,
@@ -562,10 +598,19 @@ static inline BoardCounts board_query_on(const Board *board, uint16_t alpha, uin
                        beta, marks, marks_length);
 }
 
-static inline BoardPeeled board_peel_on(const Board *board, uint16_t *marks, size_t marks_length, uint16_t alpha,
-                                        uint16_t beta, uint16_t steps) {
+static inline BoardPeeled board_peel_on(const Board *board, const uint16_t *minimums, size_t minimums_length,
+                                        uint16_t *marks, size_t marks_length, uint16_t alpha, uint16_t beta,
+                                        uint16_t steps) {
     return board_peel(board->head, board->operators, board->operators_length, board->rides, board->rides_length,
-                      board->presence, board->presence_length, marks, marks_length, alpha, beta, steps);
+                      board->presence, board->presence_length, minimums, minimums_length, marks, marks_length, alpha,
+                      beta, steps);
+}
+
+static inline BoardCounts board_own_cover_on(const Board *board, const uint16_t *minimums, size_t minimums_length,
+                                             uint16_t alpha, uint16_t beta, uint16_t *marks, size_t marks_length) {
+    return board_own_cover(board->head, board->operators, board->operators_length, board->rides, board->rides_length,
+                           board->presence, board->presence_length, minimums, minimums_length, alpha, beta, marks,
+                           marks_length);
 }
 
 static inline BoardCounts board_crowd_cover_on(const Board *board, BoardBands bands, uint16_t guests, uint16_t *marks,
