@@ -1,4 +1,4 @@
-//! The eight calls over slices. The library's calls accept every argument: they check what they use, and refuse. What
+//! The nine calls over slices. The library's calls accept every argument: they check what they use, and refuse. What
 //! they ask of a C program, that a part is as long as it says, aligned and apart from the others, a Rust slice is by its
 //! type. So no call here is `unsafe`.
 
@@ -134,7 +134,7 @@ pub struct Limits {
     pub beta: u16,
 }
 
-/// How many operators and rides a query or a crowd cover marked.
+/// How many operators and rides a query, an own cover or a crowd cover marked.
 #[derive(Clone, Copy, Debug, PartialEq, Eq)]
 pub struct Counts {
     /// Operators marked.
@@ -193,7 +193,8 @@ pub fn build(
 
 /// Query: marks who is in cover (alpha, beta), and counts them. Nobody who is off or out by the presence words is marked. A
 /// limit of 0 is no limit: alpha 0 marks every operator who is on, and beta 0 every ride that is in, also one that no
-/// operator is cleared for. A dispatch permit needs a beta from 1.
+/// operator is cleared for. A dispatch permit needs a beta from 1. A query knows no minimums: where rides have them, permits
+/// come from an [`own_cover`].
 ///
 /// Index and presence words are those of one board, as its last build or message left them. With words of another board
 /// the marks are no cover.
@@ -223,14 +224,18 @@ pub fn query(
 }
 
 /// Peel: clears the marks of those that fall short, the lowest-numbered operator first, then rides, in at most `steps`
-/// steps. Whoever is off or out by the presence words falls short of every limit, and takes a step too. Nobody else falls
-/// short of a limit of 0, so that a dispatch permit needs a beta from 1.
+/// steps. A ride's limit is its own minimum, at the place of its number, also where that is smaller than beta; where the
+/// minimum is 0 it is beta. The list of minimums may be longer than the rides, and holds zeros where no ride has one.
+///
+/// Whoever is off or out by the presence words falls short of every limit, and takes a step too. Nobody else falls short of
+/// a limit of 0, so that a dispatch permit needs a minimum of its ride, or a beta from 1.
 #[allow(clippy::too_many_arguments)]
 pub fn peel(
     head: Head,
     operators: &[u16],
     rides: &[u16],
     presence: &[u16],
+    minimums: &[u16],
     marks: &mut [u16],
     alpha: u16,
     beta: u16,
@@ -245,6 +250,8 @@ pub fn peel(
             rides.len(),
             presence.as_ptr(),
             presence.len(),
+            minimums.as_ptr(),
+            minimums.len(),
             marks.as_mut_ptr(),
             marks.len(),
             alpha,
@@ -254,6 +261,43 @@ pub fn peel(
     };
     Refusal::check(peeled.code)?;
     Ok(Peeled { settled: peeled.settled == 1, steps: peeled.steps })
+}
+
+/// Own cover: marks the cover with minimums, and counts it as a query does. A ride's limit is that of a [`peel`]. The cover
+/// is found from the pair arrays and the presence words; the marks that come in are not read. A dispatch permit needs a
+/// minimum of its ride, or a beta from 1.
+///
+/// Refuses with 1 to 5; a list of minimums shorter than the rides is 3.
+#[allow(clippy::too_many_arguments)]
+pub fn own_cover(
+    head: Head,
+    operators: &[u16],
+    rides: &[u16],
+    presence: &[u16],
+    minimums: &[u16],
+    alpha: u16,
+    beta: u16,
+    marks: &mut [u16],
+) -> Result<Counts, Refusal> {
+    let counts = unsafe {
+        exported::board_own_cover(
+            head,
+            operators.as_ptr(),
+            operators.len(),
+            rides.as_ptr(),
+            rides.len(),
+            presence.as_ptr(),
+            presence.len(),
+            minimums.as_ptr(),
+            minimums.len(),
+            alpha,
+            beta,
+            marks.as_mut_ptr(),
+            marks.len(),
+        )
+    };
+    Refusal::check(counts.code)?;
+    Ok(Counts { operators: counts.operators, rides: counts.rides })
 }
 
 /// Look-up: the limits of the band that a guest count falls in. A table that is accepted for one guest count is accepted
@@ -274,8 +318,9 @@ pub fn crowd_limits(bands: Bands, guests: u16) -> Result<Limits, Refusal> {
 }
 
 /// Crowd cover: marks the cover for a guest count, that for the limits of its band, and counts it as a query does. It is
-/// found from the pair arrays and the presence words; the marks that come in are not read. Where the band's beta is 0 every
-/// ride that is in is marked, so that a dispatch permit needs a beta from 1.
+/// found from the pair arrays and the presence words; the marks that come in are not read. It knows no minimums: the limits
+/// of the band hold for every ride. Where the band's beta is 0 every ride that is in is marked, so that a dispatch permit
+/// needs a beta from 1.
 ///
 /// Refuses with 1 to 5, then as [`crowd_limits`] does.
 pub fn crowd_cover(

@@ -7,7 +7,7 @@
 
 use crate::calls::{Bands, Head, Message};
 
-/// What a query or a crowd cover answers. Beside a refusal the counts are 0.
+/// What a query, an own cover or a crowd cover answers. Beside a refusal the counts are 0.
 #[derive(Clone, Copy, Debug, PartialEq, Eq)]
 #[repr(C)]
 pub struct Counts {
@@ -98,12 +98,31 @@ extern "C" {
         rides_length: usize,
         presence: *const u16,
         presence_length: usize,
+        minimums: *const u16,
+        minimums_length: usize,
         marks: *mut u16,
         marks_length: usize,
         alpha: u16,
         beta: u16,
         steps: u16,
     ) -> Peeled;
+
+    /// Own cover; [`own_cover`](crate::own_cover) over slices.
+    pub fn board_own_cover(
+        head: Head,
+        operators: *const u16,
+        operators_length: usize,
+        rides: *const u16,
+        rides_length: usize,
+        presence: *const u16,
+        presence_length: usize,
+        minimums: *const u16,
+        minimums_length: usize,
+        alpha: u16,
+        beta: u16,
+        marks: *mut u16,
+        marks_length: usize,
+    ) -> Counts;
 
     /// Look-up; [`crowd_limits`](crate::crowd_limits) with a result.
     pub fn board_crowd_limits(bands: Bands, guests: u16) -> CrowdLimits;

@@ -1,6 +1,7 @@
 //! A board over memory that the caller lends for as long as the board lives.
 
-use crate::{build, crowd_cover, index_places, mark_places, message, messages, pair_places, peel, preview, query};
+use crate::{build, crowd_cover, message, messages, own_cover, peel, preview, query};
+use crate::{index_places, mark_places, pair_places};
 use crate::{Answers, Bands, Counts, Head, Message, Peeled, Refusal, OPERATORS_MOST, PRESENT, RIDES_MOST};
 
 const PAIR_PLACES: usize = pair_places(OPERATORS_MOST, RIDES_MOST);
@@ -266,18 +267,53 @@ impl<'m> Board<'m> {
     }
 
     /// Cover (alpha, beta), with marks of its own. A limit of 0 is no limit: alpha 0 takes in every operator who is on, beta 0
-    /// every ride that is in, so that a dispatch permit needs a beta from 1.
+    /// every ride that is in, so that a dispatch permit needs a beta from 1. Minimums of rides don't count here: where there
+    /// are any, permits come from [`cover_with`](Board::cover_with).
     pub fn cover(&self, alpha: u16, beta: u16) -> Result<Cover, Refusal> {
         let mut marks = [0; MARK_PLACES];
         let counts = self.query(alpha, beta, &mut marks)?;
         Ok(Cover { head: self.head, counts, marks })
     }
 
-    /// Peel: clears the marks of those that fall short, in at most `steps` steps. Whoever is off or out falls short of every
-    /// limit, and takes a step too; nobody else falls short of a limit of 0. It does not read the index.
-    pub fn peel(&self, marks: &mut [u16], alpha: u16, beta: u16, steps: u16) -> Result<Peeled, Refusal> {
+    /// Peel: clears the marks of those that fall short, in at most `steps` steps. The limit of a ride is its minimum, or beta
+    /// where that is 0; the list has a place for each ride at least, and zeros where no ride has a minimum. Whoever is off or
+    /// out falls short of every limit, and takes a step too; nobody else falls short of a limit of 0. It does not read the
+    /// index.
+    pub fn peel(
+        &self,
+        minimums: &[u16],
+        marks: &mut [u16],
+        alpha: u16,
+        beta: u16,
+        steps: u16,
+    ) -> Result<Peeled, Refusal> {
         let Parts { operators, rides, presence, .. } = &self.parts;
-        peel(self.head, operators, rides, presence, marks, alpha, beta, steps)
+        peel(self.head, operators, rides, presence, minimums, marks, alpha, beta, steps)
+    }
+
+    /// Own cover: writes the marks of the cover with minimums, and counts them. The limits are those of a
+    /// [`peel`](Board::peel). It does not read the index, nor the marks that come in.
+    pub fn own_cover(&self, minimums: &[u16], alpha: u16, beta: u16, marks: &mut [u16]) -> Result<Counts, Refusal> {
+        let Parts { operators, rides, presence, .. } = &self.parts;
+        own_cover(self.head, operators, rides, presence, minimums, alpha, beta, marks)
+    }
+
+    /// The cover with minimums, with marks of its own. A dispatch permit needs a minimum of its ride, or a beta from 1.
+    ///
+    /// ```
+    /// use board::{Board, Memory};
+    ///
+    /// let mut memory = Box::new(Memory::new());
+    /// let board = Board::build(memory.parts(), 3, 2, &[(0, 0), (1, 0), (1, 1), (2, 0)], 10)?;
+    /// assert!(board.cover_with(&[0, 0], 1, 2)?.rides().eq([0]));
+    /// assert!(board.cover_with(&[0, 1], 1, 2)?.rides().eq([0, 1]));
+    /// assert!(board.cover_with(&[4, 1], 1, 2)?.rides().eq([1]));
+    /// # Ok::<(), board::Refusal>(())
+    /// ```
+    pub fn cover_with(&self, minimums: &[u16], alpha: u16, beta: u16) -> Result<Cover, Refusal> {
+        let mut marks = [0; MARK_PLACES];
+        let counts = self.own_cover(minimums, alpha, beta, &mut marks)?;
+        Ok(Cover { head: self.head, counts, marks })
     }
 
     /// Crowd cover: writes the marks of the cover for a guest count, that for the limits of its band, and counts them. It does
@@ -408,8 +444,8 @@ impl Cover {
         operator < self.head.operators && self.marks[operator as usize] == 1
     }
 
-    /// Whether a ride is in it; a ride that the board doesn't have is not. A ride in a cover with beta from 1 may dispatch.
-    /// With beta 0 every ride in service is in it, which permits nothing.
+    /// Whether a ride is in it; a ride that the board doesn't have is not. A ride whose limit is from 1 may dispatch where it
+    /// is in the cover. Under a limit of 0 every ride in service is in it, which permits nothing.
     pub fn has_ride(&self, ride: u16) -> bool {
         ride < self.head.rides && self.marks[self.head.operators as usize + ride as usize] == 1
     }

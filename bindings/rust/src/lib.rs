@@ -1,4 +1,4 @@
-//! The crew cover board of document 01 for Rust programs: the eight calls of its static library over slices, and a
+//! The crew cover board of document 01 for Rust programs: the nine calls of its static library over slices, and a
 //! [`Board`] over memory that the caller lends. Nothing here allocates, and no user of it writes `unsafe`.
 //!
 //! ```
@@ -24,7 +24,7 @@ mod held;
 mod refusal;
 
 pub use answers::Answers;
-pub use calls::{build, crowd_cover, crowd_limits, message, messages, peel, preview, query};
+pub use calls::{build, crowd_cover, crowd_limits, message, messages, own_cover, peel, preview, query};
 pub use calls::{Band, Bands, Counts, Head, Limits, Message, Peeled};
 pub use calls::{GRANT, OPERATOR_OFF, OPERATOR_ON, RIDE_IN, RIDE_OUT, WITHDRAWAL};
 pub use held::{Board, Cover, Memory, Parts, Presence, Words};

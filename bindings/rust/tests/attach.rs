@@ -101,7 +101,7 @@ fn a_damaged_index() {
     let mut board = Board::attach(lent.parts(), head).unwrap();
     assert_eq!(board.cover(2, 2).unwrap().counts(), Counts { operators: 4, rides: 3 });
     let mut marks = [1; 7];
-    assert_eq!(board.peel(&mut marks, 2, 2, u16::MAX), Ok(Peeled { settled: true, steps: 3 }));
+    assert_eq!(board.peel(&[0; 3], &mut marks, 2, 2, u16::MAX), Ok(Peeled { settled: true, steps: 3 }));
     assert_eq!(marks, [1, 1, 0, 0, 1, 1, 0]);
     assert_eq!(board.cover(0, 10).unwrap().counts(), Counts { operators: 4, rides: 0 });
     assert_eq!(board.cover(3, 0).unwrap().counts(), Counts { operators: 4, rides: 3 });

@@ -8,6 +8,9 @@ use std::sync::Mutex;
 
 const SAMPLE: [(u16, u16); 7] = [(0, 0), (0, 1), (1, 0), (1, 1), (2, 1), (2, 2), (3, 2)];
 
+/// No ride has a minimum.
+const NONE: [u16; 60] = [0; 60];
+
 /// The board of document 01's samples.
 fn sample(memory: &mut Memory, start: u32) -> Board<'_> {
     Board::build(memory.parts(), 4, 3, &SAMPLE, start).unwrap()
@@ -46,7 +49,11 @@ fn members(board: &Board, alpha: u16, beta: u16) -> (Vec<u16>, Vec<u16>) {
     let (mut queried, mut peeled) = (vec![9; nodes as usize], vec![1; nodes as usize]);
     let counts = board.query(alpha, beta, &mut queried).unwrap();
     let steps = nodes - counts.operators - counts.rides;
-    assert_eq!(board.peel(&mut peeled, alpha, beta, nodes), Ok(Peeled { settled: true, steps }), "({alpha},{beta})");
+    assert_eq!(
+        board.peel(&NONE, &mut peeled, alpha, beta, nodes),
+        Ok(Peeled { settled: true, steps }),
+        "({alpha},{beta})"
+    );
     assert_eq!(queried, peeled, "({alpha},{beta})");
     let cover = board.cover(alpha, beta).unwrap();
     assert_eq!(cover.counts(), counts);
@@ -74,14 +81,14 @@ fn limits_of_zero() {
 
     // Unsettled under limits of 0, and a set that stands.
     let mut marks = [1; 7];
-    assert_eq!(board.peel(&mut marks, 2, 0, 0), Ok(Peeled { settled: false, steps: 0 }));
-    assert_eq!(board.peel(&mut marks, 0, 3, 1), Ok(Peeled { settled: false, steps: 1 }));
+    assert_eq!(board.peel(&NONE, &mut marks, 2, 0, 0), Ok(Peeled { settled: false, steps: 0 }));
+    assert_eq!(board.peel(&NONE, &mut marks, 0, 3, 1), Ok(Peeled { settled: false, steps: 1 }));
     assert_eq!(marks, [1, 1, 1, 1, 0, 1, 1]);
     let mut marks = [0, 0, 0, 0, 1, 0, 1];
-    assert_eq!(board.peel(&mut marks, 1, 0, 9), Ok(Peeled { settled: true, steps: 0 }));
+    assert_eq!(board.peel(&NONE, &mut marks, 1, 0, 9), Ok(Peeled { settled: true, steps: 0 }));
     assert_eq!(marks, [0, 0, 0, 0, 1, 0, 1]);
     marks[3] = 2;
-    assert_eq!(board.peel(&mut marks, 0, 0, 9), Err(Refusal::MarkUnknown));
+    assert_eq!(board.peel(&NONE, &mut marks, 0, 0, 9), Err(Refusal::MarkUnknown));
 
     // A ride that nobody is cleared for.
     let board = Board::build(memory.parts(), 1, 2, &[(0, 0)], 1).unwrap();
@@ -118,14 +125,14 @@ fn peels() {
     let mut memory = Memory::new();
     let board = sample(&mut memory, 1);
     let mut marks = [1; 7];
-    assert_eq!(board.peel(&mut marks, 2, 2, 2), Ok(Peeled { settled: false, steps: 2 }));
+    assert_eq!(board.peel(&NONE, &mut marks, 2, 2, 2), Ok(Peeled { settled: false, steps: 2 }));
     assert_eq!(marks, [1, 1, 1, 0, 1, 1, 0]);
     let mut marks = [1; 7];
-    assert_eq!(board.peel(&mut marks, 2, 2, 3), Ok(Peeled { settled: true, steps: 3 }));
-    assert_eq!(board.peel(&mut marks, 2, 2, 0), Ok(Peeled { settled: true, steps: 0 }));
+    assert_eq!(board.peel(&NONE, &mut marks, 2, 2, 3), Ok(Peeled { settled: true, steps: 3 }));
+    assert_eq!(board.peel(&NONE, &mut marks, 2, 2, 0), Ok(Peeled { settled: true, steps: 0 }));
     assert_eq!(marks, [1, 1, 0, 0, 1, 1, 0]);
     marks[3] = 2;
-    assert_eq!(board.peel(&mut marks, 2, 2, 9), Err(Refusal::MarkUnknown));
+    assert_eq!(board.peel(&NONE, &mut marks, 2, 2, 9), Err(Refusal::MarkUnknown));
     assert_eq!(marks, [1, 1, 0, 2, 1, 1, 0]);
 }
 
@@ -237,11 +244,15 @@ fn lengths() {
         assert_eq!(query(head, &[0; 20], &[1; 7], alpha, beta, &mut marks), Err(Refusal::PartShort));
         assert_eq!(query(head, &[0; 21], &[1; 6], alpha, beta, &mut marks), Err(Refusal::PartShort));
         assert_eq!(query(head, &[0; 21], &[1; 7], alpha, beta, &mut marks[..6]), Err(Refusal::PartShort));
-        for [operators, rides, presence, marked] in [[11, 12, 7, 7], [12, 11, 7, 7], [12, 12, 6, 7], [12, 12, 7, 6]] {
-            let marks = &mut marks[..marked];
-            let peeled =
-                peel(head, &[0; 12][..operators], &[0; 12][..rides], &[1; 7][..presence], marks, alpha, beta, 1);
+        for short in 0..5 {
+            let [operators, rides, presence, minimums, marked] =
+                core::array::from_fn(|part| [12, 12, 7, 3, 7][part] - (part == short) as usize);
+            let (operators, rides, presence) = (&[0; 12][..operators], &[0; 12][..rides], &[1; 7][..presence]);
+            let (minimums, marks) = (&NONE[..minimums], &mut marks[..marked]);
+            let peeled = peel(head, operators, rides, presence, minimums, marks, alpha, beta, 1);
             assert_eq!(peeled, Err(Refusal::PartShort));
+            let covered = own_cover(head, operators, rides, presence, minimums, alpha, beta, marks);
+            assert_eq!(covered, Err(Refusal::PartShort));
         }
     }
     assert_eq!(marks, [9; 7]);

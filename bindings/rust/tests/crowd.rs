@@ -374,7 +374,7 @@ fn check_covers(board: &Board, table: &[Band]) {
     for Band { first, last, alpha, beta } in table.iter().copied() {
         let (mut queried, mut peeled) = (vec![9; places], vec![1; places]);
         let counts = board.query(alpha, beta, &mut queried).unwrap();
-        assert!(board.peel(&mut peeled, alpha, beta, nodes).unwrap().settled);
+        assert!(board.peel(&[0; 60], &mut peeled, alpha, beta, nodes).unwrap().settled);
         assert_eq!(queried, peeled, "({alpha},{beta})");
         for (guests, came) in
             [first, last].into_iter().flat_map(|guests| [0, 1, 7, u16::MAX].map(|came| (guests, came)))

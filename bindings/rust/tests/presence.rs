@@ -12,6 +12,9 @@ const PAIRS: [(u16, u16); 7] = [(0, 0), (0, 1), (1, 0), (1, 1), (2, 1), (2, 2), 
 const LENGTHS: [usize; 8] = [12, 12, 12, 12, 21, 7, 7, 7];
 const HEAD: Head = Head { operators: 4, rides: 3, pairs: 7 };
 
+/// No ride has a minimum.
+const NONE: [u16; 3] = [0; 3];
+
 /// Document 01's board, built at stamp 5.
 fn built(lent: &mut Lent) -> Board<'_> {
     Board::build(lent.parts(), 4, 3, &PAIRS, 5).unwrap()
@@ -145,7 +148,7 @@ fn covers_of_every_choice() {
             let counts = board.query(alpha, beta, &mut queried).unwrap();
             let steps = 7 - cover.count_ones() as u16;
             assert_eq!(counts.operators + counts.rides, 7 - steps, "{present:07b} ({alpha},{beta})");
-            let answer = board.peel(&mut peeled, alpha, beta, 7);
+            let answer = board.peel(&NONE, &mut peeled, alpha, beta, 7);
             assert_eq!(answer, Ok(Peeled { settled: true, steps }), "{present:07b} ({alpha},{beta})");
             assert_eq!((&queried[..], &peeled[..]), (&expected[..], &expected[..]), "{present:07b} ({alpha},{beta})");
         }
@@ -198,7 +201,7 @@ fn steps_of_a_peel() {
         let mut expected = [1; 7];
         for allowed in 0..=8 {
             let (mut marks, steps) = ([1; 7], order.len().min(allowed));
-            let answer = board.peel(&mut marks, limits.0, limits.1, allowed as u16);
+            let answer = board.peel(&NONE, &mut marks, limits.0, limits.1, allowed as u16);
             let settled = steps == order.len();
             assert_eq!(answer, Ok(Peeled { settled, steps: steps as u16 }), "{limits:?}, {allowed} allowed");
             assert_eq!(marks, expected, "{limits:?}, {allowed} allowed");
@@ -212,16 +215,16 @@ fn steps_of_a_peel() {
     let words = board.words();
     for gone in [0, 2, 7, 257, u16::MAX] {
         let (mut marks, presence) = ([1; 7], [1, gone, 1, 1, 1, 1, gone]);
-        let answer = peel(HEAD, words.operators, words.rides, &presence, &mut marks, 0, 0, 2);
+        let answer = peel(HEAD, words.operators, words.rides, &presence, &NONE, &mut marks, 0, 0, 2);
         assert_eq!((answer, marks), (Ok(Peeled { settled: true, steps: 2 }), [1, 0, 1, 1, 1, 1, 0]), "word {gone}");
     }
 
     // Nobody unmarked takes a step, and the mark of somebody off is checked like any other.
     let mut marks = [1, 0, 1, 0, 1, 0, 1];
-    assert_eq!(board.peel(&mut marks, 0, 0, 9), Ok(Peeled { settled: true, steps: 1 }));
+    assert_eq!(board.peel(&NONE, &mut marks, 0, 0, 9), Ok(Peeled { settled: true, steps: 1 }));
     assert_eq!(marks, [1, 0, 1, 0, 1, 0, 0]);
     let mut marks = [0, 2, 0, 0, 0, 0, 0];
-    assert_eq!(board.peel(&mut marks, 0, 0, 9), Err(Refusal::MarkUnknown));
+    assert_eq!(board.peel(&NONE, &mut marks, 0, 0, 9), Err(Refusal::MarkUnknown));
     assert_eq!(marks, [0, 2, 0, 0, 0, 0, 0]);
 }
 
@@ -370,6 +373,6 @@ fn words_of_another_board() {
     let board = Board::attach(lent.parts(), HEAD).unwrap();
     assert!(board.cover(2, 2).unwrap().has_ride(0));
     let mut marks = [1; 7];
-    assert_eq!(board.peel(&mut marks, 2, 2, 7), Ok(Peeled { settled: true, steps: 7 }));
+    assert_eq!(board.peel(&NONE, &mut marks, 2, 2, 7), Ok(Peeled { settled: true, steps: 7 }));
     assert_eq!(marks, [0; 7]);
 }

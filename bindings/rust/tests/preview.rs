@@ -106,7 +106,7 @@ fn a_board_of_its_own() {
     assert_eq!(granted.row(2), Some(&[2; 7][..]));
     assert!(granted.cover(2, 2).unwrap().rides().eq([0, 1, 2]));
     let mut marks = [1; 7];
-    assert_eq!(granted.peel(&mut marks, 2, 2, 9), Ok(Peeled { settled: true, steps: 0 }));
+    assert_eq!(granted.peel(&[0; 3], &mut marks, 2, 2, 9), Ok(Peeled { settled: true, steps: 0 }));
 
     let (_, withdrawn) = granted.preview(Message::withdrawal(0, 0, 3), further.parts()).unwrap();
     assert!(withdrawn.cover(2, 2).unwrap().rides().eq([1, 2]));
