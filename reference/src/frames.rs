@@ -4,7 +4,7 @@
 use crate::crowd::{Band, Bands, CrowdLimits};
 use crate::{Answer, Counts, Head, Lengths, Message, Parts, Peeled, Slices, Vectors};
 
-/// The most places of each part of a board, of the marks and of the answers that a frame may lend.
+/// The most places of each part of a board, of the minimums, of the marks and of the answers that a frame may lend.
 pub const PLACES: Lengths = Parts {
     operators: 12_300,
     rides: 12_300,
@@ -15,6 +15,7 @@ pub const PLACES: Lengths = Parts {
     presence_revisions: 270,
     presence: 270,
 };
+pub const MINIMUM_PLACES: usize = 70;
 pub const MARK_PLACES: usize = 270;
 pub const ANSWER_PLACES: usize = 70;
 
@@ -26,6 +27,7 @@ pub const MESSAGE: u16 = 4;
 pub const MESSAGES: u16 = 5;
 pub const CROWD_LIMITS: u16 = 6;
 pub const CROWD_COVER: u16 = 7;
+pub const OWN_COVER: u16 = 8;
 
 // What a frame says of a lent part
 
@@ -133,6 +135,7 @@ pub enum Call {
         operators: Part<u16>,
         rides: Part<u16>,
         presence: Part<u16>,
+        minimums: Part<u16>,
         marks: Part<u16>,
     },
     Message {
@@ -157,6 +160,16 @@ pub enum Call {
         operators: Part<u16>,
         rides: Part<u16>,
         presence: Part<u16>,
+        marks: Part<u16>,
+    },
+    OwnCover {
+        head: Head,
+        alpha: u16,
+        beta: u16,
+        operators: Part<u16>,
+        rides: Part<u16>,
+        presence: Part<u16>,
+        minimums: Part<u16>,
         marks: Part<u16>,
     },
 }
@@ -224,13 +237,14 @@ impl Call {
                 put_part(&mut frame, presence);
                 put_part(&mut frame, marks);
             }
-            Call::Peel { head, alpha, beta, steps, operators, rides, presence, marks } => {
+            Call::Peel { head, alpha, beta, steps, operators, rides, presence, minimums, marks } => {
                 frame.push(PEEL);
                 put_head(&mut frame, *head);
                 frame.extend([*alpha, *beta, *steps]);
                 put_part(&mut frame, operators);
                 put_part(&mut frame, rides);
                 put_part(&mut frame, presence);
+                put_part(&mut frame, minimums);
                 put_part(&mut frame, marks);
             }
             Call::Message { head, message, parts } => {
@@ -261,6 +275,16 @@ impl Call {
                 put_part(&mut frame, operators);
                 put_part(&mut frame, rides);
                 put_part(&mut frame, presence);
+                put_part(&mut frame, marks);
+            }
+            Call::OwnCover { head, alpha, beta, operators, rides, presence, minimums, marks } => {
+                frame.push(OWN_COVER);
+                put_head(&mut frame, *head);
+                frame.extend([*alpha, *beta]);
+                put_part(&mut frame, operators);
+                put_part(&mut frame, rides);
+                put_part(&mut frame, presence);
+                put_part(&mut frame, minimums);
                 put_part(&mut frame, marks);
             }
         }
@@ -303,6 +327,7 @@ pub trait Board {
         operators: &[u16],
         rides: &[u16],
         presence: &[u16],
+        minimums: &[u16],
         marks: &mut [u16],
         alpha: u16,
         beta: u16,
@@ -320,6 +345,18 @@ pub trait Board {
         presence: &[u16],
         bands: Bands,
         guests: u16,
+        marks: &mut [u16],
+    ) -> Counts;
+    #[allow(clippy::too_many_arguments)]
+    fn own_cover(
+        &mut self,
+        head: Head,
+        operators: &[u16],
+        rides: &[u16],
+        presence: &[u16],
+        minimums: &[u16],
+        alpha: u16,
+        beta: u16,
         marks: &mut [u16],
     ) -> Counts;
 }
@@ -350,12 +387,13 @@ impl Board for Reference {
         operators: &[u16],
         rides: &[u16],
         presence: &[u16],
+        minimums: &[u16],
         marks: &mut [u16],
         alpha: u16,
         beta: u16,
         steps: u16,
     ) -> Peeled {
-        crate::peel(head, operators, rides, presence, &[0; 60], marks, alpha, beta, steps)
+        crate::peel(head, operators, rides, presence, minimums, marks, alpha, beta, steps)
     }
 
     fn message(&mut self, head: &mut Head, parts: &mut Slices, message: Message) -> Answer {
@@ -382,11 +420,27 @@ impl Board for Reference {
     ) -> Counts {
         crate::crowd::crowd_cover(head, operators, rides, presence, &bands, guests, marks)
     }
+
+    fn own_cover(
+        &mut self,
+        head: Head,
+        operators: &[u16],
+        rides: &[u16],
+        presence: &[u16],
+        minimums: &[u16],
+        alpha: u16,
+        beta: u16,
+        marks: &mut [u16],
+    ) -> Counts {
+        crate::own_cover(head, operators, rides, presence, minimums, alpha, beta, marks)
+    }
 }
 
 /// The memory that calls are lent parts of. It stays from call to call.
+#[derive(Clone)]
 pub struct Memory {
     pub parts: Vectors,
+    pub minimums: Vec<u16>,
     pub marks: Vec<u16>,
     pub answers: Vec<u16>,
 }
@@ -394,7 +448,8 @@ pub struct Memory {
 impl Default for Memory {
     fn default() -> Self {
         let parts = PLACES.map(|places| vec![0; places], |places| vec![0; places]);
-        Memory { parts, marks: vec![0; MARK_PLACES], answers: vec![0; ANSWER_PLACES] }
+        let (minimums, marks, answers) = (vec![0; MINIMUM_PLACES], vec![0; MARK_PLACES], vec![0; ANSWER_PLACES]);
+        Memory { parts, minimums, marks, answers }
     }
 }
 
@@ -468,14 +523,15 @@ impl Call {
                 let sum = checksum(checksum(0, index), presence);
                 (Outcome { numbers, checksum: checksum(sum, marks) }, *head)
             }
-            Call::Peel { head, alpha, beta, steps, operators, rides, presence, marks } => {
+            Call::Peel { head, alpha, beta, steps, operators, rides, presence, minimums, marks } => {
                 let operators = lend(&mut memory.parts.operators, operators);
                 let rides = lend(&mut memory.parts.rides, rides);
                 let presence = lend(&mut memory.parts.presence, presence);
+                let minimums = lend(&mut memory.minimums, minimums);
                 let marks = lend(&mut memory.marks, marks);
-                let peeled = board.peel(*head, operators, rides, presence, marks, *alpha, *beta, *steps);
+                let peeled = board.peel(*head, operators, rides, presence, minimums, marks, *alpha, *beta, *steps);
                 let numbers = vec![peeled.code, peeled.settled, peeled.steps];
-                let sum = checksum(checksum(checksum(0, operators), rides), presence);
+                let sum = checksum(checksum(checksum(checksum(0, operators), rides), presence), minimums);
                 (Outcome { numbers, checksum: checksum(sum, marks) }, *head)
             }
             Call::Message { head, message, parts } => {
@@ -506,6 +562,17 @@ impl Call {
                 let counts = board.crowd_cover(*head, operators, rides, presence, *bands, *guests, marks);
                 let numbers = vec![counts.code, counts.operators, counts.rides];
                 let sum = checksum(checksum(checksum(0, operators), rides), presence);
+                (Outcome { numbers, checksum: checksum(sum, marks) }, *head)
+            }
+            Call::OwnCover { head, alpha, beta, operators, rides, presence, minimums, marks } => {
+                let operators = lend(&mut memory.parts.operators, operators);
+                let rides = lend(&mut memory.parts.rides, rides);
+                let presence = lend(&mut memory.parts.presence, presence);
+                let minimums = lend(&mut memory.minimums, minimums);
+                let marks = lend(&mut memory.marks, marks);
+                let counts = board.own_cover(*head, operators, rides, presence, minimums, *alpha, *beta, marks);
+                let numbers = vec![counts.code, counts.operators, counts.rides];
+                let sum = checksum(checksum(checksum(checksum(0, operators), rides), presence), minimums);
                 (Outcome { numbers, checksum: checksum(sum, marks) }, *head)
             }
         }
@@ -595,6 +662,7 @@ impl<'a> Cursor<'a> {
                 operators: self.part(),
                 rides: self.part(),
                 presence: self.part(),
+                minimums: self.part(),
                 marks: self.part(),
             },
             MESSAGE => Call::Message { head: self.head(), message: self.message(), parts: self.parts() },
@@ -612,6 +680,16 @@ impl<'a> Cursor<'a> {
                 operators: self.part(),
                 rides: self.part(),
                 presence: self.part(),
+                marks: self.part(),
+            },
+            OWN_COVER => Call::OwnCover {
+                head: self.head(),
+                alpha: self.word(),
+                beta: self.word(),
+                operators: self.part(),
+                rides: self.part(),
+                presence: self.part(),
+                minimums: self.part(),
                 marks: self.part(),
             },
             kind => panic!("a frame of kind {kind}"),

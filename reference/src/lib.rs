@@ -6,6 +6,7 @@ pub mod corrections;
 pub mod crowd;
 pub mod crowd_samples;
 pub mod frames;
+pub mod minimums;
 pub mod presence;
 pub mod samples;
 

@@ -1,6 +1,7 @@
 //! The samples of documents 01 and 02, and the definitions against what they say of every set.
 
 mod crowd;
+mod minimums;
 
 use super::corrections::{Corrections, BESIDE_14, CORRECTIONS, SHORT_REVISIONS};
 use super::presence::{Delivery, Node, Rows, Turns, Words, BEFORE_15, BESIDE_15, BESIDE_6, BUILT_OVER, DELIVERIES};
@@ -36,9 +37,14 @@ impl Store {
         (counts, marks)
     }
 
+    /// A peel without minimums.
     fn peel(&self, marks: &mut [u16], alpha: u16, beta: u16, steps: u16) -> Peeled {
+        self.peel_with(&vec![0; self.head.rides as usize], marks, (alpha, beta), steps)
+    }
+
+    fn peel_with(&self, minimums: &[u16], marks: &mut [u16], (alpha, beta): (u16, u16), steps: u16) -> Peeled {
         let Vectors { operators, rides, presence, .. } = &self.parts;
-        peel(self.head, operators, rides, presence, marks, alpha, beta, steps)
+        peel(self.head, operators, rides, presence, minimums, marks, alpha, beta, steps)
     }
 
     fn message(&mut self, one: Message) -> Answer {
@@ -1148,12 +1154,31 @@ fn frames_are_read_as_written() {
             operators: given.clone(),
             rides: kept.clone(),
             presence: presence.clone(),
+            minimums: Part::given(5, &[0, 65_535, 2], 9),
             marks: changed.clone(),
         },
         Call::Message { head, message: one, parts: Parts { index: changed.clone(), ..parts.clone() } },
         Call::Messages { head, messages: vec![one; 3], parts, answers: given.clone() },
         Call::CrowdLimits { guests: 65_535, bands },
-        Call::CrowdCover { head, guests: 256, bands, operators: kept, rides: given, presence, marks: changed },
+        Call::CrowdCover {
+            head,
+            guests: 256,
+            bands,
+            operators: kept.clone(),
+            rides: given.clone(),
+            presence: presence.clone(),
+            marks: changed.clone(),
+        },
+        Call::OwnCover {
+            head,
+            alpha: 256,
+            beta: 2,
+            operators: kept,
+            rides: given.clone(),
+            presence,
+            minimums: given,
+            marks: changed,
+        },
     ];
     let mut stream = Vec::new();
     calls.iter().for_each(|call| call.write(&mut stream));

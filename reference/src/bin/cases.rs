@@ -5,7 +5,10 @@
 use reference::corrections::{Corrections, BESIDE_14, CORRECTIONS, SHORT_REVISIONS};
 use reference::crowd::{crowd_limits, Band, Bands, BANDS_MOST, GUESTS_MOST};
 use reference::crowd_samples::{followed, Lent, BESIDE, CROWD_COVERS, FIVE, LENT, LOOK_UPS, REFUSED, UNREAD};
-use reference::frames::{replay_cover, write_end, Call, Framed, Memory, Outcome, Part, Reference, PLACES};
+use reference::frames::{
+    replay_cover, write_end, Call, Framed, Memory, Outcome, Part, Reference, MINIMUM_PLACES, PLACES,
+};
+use reference::minimums;
 use reference::presence::{Delivery, Last, Words, BEFORE_15, BESIDE_15, BESIDE_6, BUILT_OVER, DELIVERIES, NODES};
 use reference::presence::{ONE_SIDED, OTHERS, PEELS, QUERIES, SHORT_PRESENCE, TURNS, UNSTAMPED, WORDS_BESIDE_6};
 use reference::samples::{Pair, BUILT, BY_NO_INDEX, LIMITS_FROM_0, NO_INDEX, PAIRS, PEELS_FROM_0, SHORT_FROM_0, START};
@@ -83,11 +86,16 @@ impl Random {
         needed + self.pick(&[0, 0, 1, 2, 5])
     }
 
-    /// For each part of a board a length that is at least the one needed. Those of the parts that document 02 adds come
-    /// from a generator of their own: what `cover` is given doesn't depend on them.
+    /// A generator of its own, for what document 02 adds to a call: what other calls and `cover` are given doesn't depend
+    /// on it.
+    fn others(&self) -> Random {
+        Random(!self.0)
+    }
+
+    /// For each part of a board a length that is at least the one needed.
     fn lengths(&mut self, head: Head) -> Lengths {
         let needed = head.lengths();
-        let mut others = Random(!self.0);
+        let mut others = self.others();
         Parts {
             operators: self.length(needed.operators),
             rides: self.length(needed.rides),
@@ -123,7 +131,7 @@ const ZEROS: [&str; 7] = [
     "a limit 0 and the index of no board",
 ];
 
-/// Who is off or out in a query, peel or crowd cover. The last but one is for queries alone, and the last for peels alone.
+/// Who is off or out in a query, peel or cover. The last but one is for queries alone, and the last for peels alone.
 const ABSENCES: [&str; 6] = [
     "an operator off",
     "a ride out",
@@ -155,8 +163,28 @@ const CROWDS: [&str; 7] = [
     "a mark above 1 comes in",
 ];
 
-/// How often each call gave each number, and how often it was of each kind of `ZEROS`, `ABSENCES`, `TAKEN` and `CROWDS`,
-/// without being refused.
+/// The minimums of peels and own covers. The last is for own covers alone.
+const MINIMUMS: [&str; 13] = [
+    "no ride has a minimum",
+    "some rides have a minimum, and some none",
+    "every ride has a minimum",
+    "all of two rides or more have the same minimum",
+    "a minimum below beta",
+    "a minimum above beta",
+    "a minimum where beta is 0",
+    "a minimum of 65535",
+    "a minimum of a ride that is out",
+    "a word past the rides that isn't 0",
+    "somebody left who goes without minimums",
+    "somebody gone who is left without minimums",
+    "a mark above 1 comes in",
+];
+
+/// A peel or own cover that is refused for this alone.
+const SHORT_LIST: &str = "a list of minimums that is one place too short";
+
+/// How often each call gave each number, and how often it was of each kind of `ZEROS`, `ABSENCES`, `TAKEN`, `CROWDS` and
+/// `MINIMUMS`, without being refused, or refused for a `SHORT_LIST`.
 #[derive(Default)]
 struct Tally {
     numbers: BTreeMap<(&'static str, u16), usize>,
@@ -191,7 +219,7 @@ impl Tally {
         self.is_of(name, &ZEROS, &are);
     }
 
-    /// Counts a query, peel or crowd cover under each kind of `ABSENCES`, of which the last two are given.
+    /// Counts a query, peel or cover under each kind of `ABSENCES`, of which the last two are given.
     fn absences(&mut self, name: &'static str, head: Head, both_zero: bool, presence: &[u16], last: [bool; 2]) {
         let (operators, rides) = presence.split_at(head.operators as usize);
         let is_absent = |word: &u16| *word != PRESENT;
@@ -276,9 +304,13 @@ impl Stream {
 
     fn call(&mut self, call: Call) -> (Outcome, Head) {
         call.write(&mut self.bytes);
+        let without = without_minimums(&call, &self.memory);
         let (outcome, head) = call.run(&mut Reference, &mut self.memory);
         self.text += &format!("{outcome}\n");
         self.count(&call, outcome.numbers[0]);
+        if let Some(without) = without {
+            self.count_minimums(&call, outcome.numbers[0], without);
+        }
         (outcome, head)
     }
 
@@ -342,7 +374,51 @@ impl Stream {
                     tally.crowd("crowd cover", bands, *guests, marks.fill.is_some_and(|mark| mark > 1));
                 }
             }
+            Call::OwnCover { head, alpha, beta, .. } => {
+                tally.gave("own cover", code);
+                if code == 0 {
+                    tally.limits("own cover", *head, *alpha, *beta, &[]);
+                    let presence = &presence[..head.nodes()];
+                    tally.absences("own cover", *head, (*alpha, *beta) == (0, 0), presence, [false; 2]);
+                }
+            }
         }
+    }
+
+    /// Counts a peel or own cover that was made under each kind of `MINIMUMS`, or as a `SHORT_LIST`, by its number and the
+    /// marks left, and by those without minimums.
+    fn count_minimums(&mut self, call: &Call, code: u16, (number, without): (u16, Vec<u16>)) {
+        let (name, head, beta, lent, last) = match call {
+            Call::Peel { head, beta, minimums, .. } => ("peel", head, *beta, minimums.len, false),
+            Call::OwnCover { head, beta, minimums, marks, .. } => {
+                ("own cover", head, *beta, minimums.len, marks.fill.is_some_and(|mark| mark > 1))
+            }
+            _ => return,
+        };
+        let (operators, rides) = (head.operators as usize, head.rides as usize);
+        if code != 0 {
+            return self.tally.is_of(name, &[SHORT_LIST], &[code == 3 && number == 0 && lent + 1 == rides]);
+        }
+        let (read, past) = self.memory.minimums[..lent].split_at(rides);
+        let own: Vec<u16> = read.iter().copied().filter(|word| *word != 0).collect();
+        let in_service = &self.memory.parts.presence[operators..];
+        let left = || self.memory.marks[..operators + rides].iter().zip(&without);
+        let are = [
+            own.is_empty() && rides > 0,
+            !own.is_empty() && own.len() < rides,
+            own.len() == rides && rides > 0,
+            own.len() == rides && rides > 1 && own.iter().all(|word| *word == own[0]),
+            own.iter().any(|word| *word < beta),
+            own.iter().any(|word| *word > beta),
+            beta == 0 && !own.is_empty(),
+            own.contains(&65_535),
+            read.iter().zip(in_service).any(|(own, word)| *own != 0 && *word != PRESENT),
+            past.iter().any(|word| *word != 0),
+            left().any(|(mark, without)| mark > without),
+            left().any(|(mark, without)| mark < without),
+            last,
+        ];
+        self.tally.is_of(name, &MINIMUMS, &are);
     }
 
     /// Makes a call whose answer and marks were worked out by hand.
@@ -350,6 +426,16 @@ impl Stream {
         let (outcome, _) = self.call(call);
         assert_eq!((&outcome.numbers[..], &self.memory.marks[..marks.len()]), (numbers, marks));
     }
+}
+
+/// The number of a peel or own cover, and the marks that it would leave, where no ride has a minimum.
+fn without_minimums(call: &Call, memory: &Memory) -> Option<(u16, Vec<u16>)> {
+    let mut call = call.clone();
+    let (Call::Peel { minimums, .. } | Call::OwnCover { minimums, .. }) = &mut call else { return None };
+    *minimums = Part::filled(MINIMUM_PLACES, 0);
+    let mut memory = memory.clone();
+    let (outcome, _) = call.run(&mut Reference, &mut memory);
+    Some((outcome.numbers[0], memory.marks))
 }
 
 // Boards, whole and damaged
@@ -411,9 +497,14 @@ impl Draft {
         Call::Build { head: self.head, start, parts: self.parts() }
     }
 
-    fn peel(&self, alpha: u16, beta: u16, steps: u16, marks: Part<u16>) -> Call {
+    fn peel(&self, alpha: u16, beta: u16, steps: u16, minimums: Part<u16>, marks: Part<u16>) -> Call {
         let Parts { operators, rides, presence, .. } = self.parts();
-        Call::Peel { head: self.head, alpha, beta, steps, operators, rides, presence, marks }
+        Call::Peel { head: self.head, alpha, beta, steps, operators, rides, presence, minimums, marks }
+    }
+
+    fn own_cover(&self, alpha: u16, beta: u16, minimums: Part<u16>, marks: Part<u16>) -> Call {
+        let Parts { operators, rides, presence, .. } = self.parts();
+        Call::OwnCover { head: self.head, alpha, beta, operators, rides, presence, minimums, marks }
     }
 
     fn crowd_cover(&self, (bands, guests): (Bands, u16), marks: Part<u16>) -> Call {
@@ -543,6 +634,47 @@ fn limit(random: &mut Random, most: u16) -> u16 {
     }
 }
 
+// Minimums
+
+/// A minimum for each of so many rides, that a function gives: none has one, some have, all have, or all have the same.
+fn minimums_of(random: &mut Random, rides: usize, mut minimum: impl FnMut(&mut Random) -> u16) -> Vec<u16> {
+    let own = random.pick(&[0, 1, 2, 3, 3, 6]);
+    if random.one_in(8) {
+        return vec![minimum(random); rides];
+    }
+    (0..rides).map(|_| if random.below(6) < own { minimum(random) } else { 0 }).collect()
+}
+
+/// A minimum that so many operators may meet, or not, at times near beta.
+fn some_minimum(random: &mut Random, operators: u16, beta: u16) -> u16 {
+    match random.below(8) {
+        0 => beta.saturating_sub(1).max(1),
+        1 => beta.saturating_add(1),
+        2 => random.pick(&[operators.saturating_add(1), 256, 65_535, 65_535]),
+        _ => 1 + random.below(operators.clamp(1, 4) as usize) as u16,
+    }
+}
+
+/// A list of minimums, at times too short. Past the rides stands any word; where there are too many rides, nothing else.
+fn some_minimums(random: &mut Random, head: Head, beta: u16, is_short: bool) -> Part<u16> {
+    let rides = (head.rides as usize).min(65);
+    let own = if rides > 60 { 0 } else { rides };
+    let words = minimums_of(random, own, |random| some_minimum(random, head.operators, beta));
+    let len = if is_short { random.short(rides) } else { random.length(rides) };
+    Part::given(len, &words, random.word())
+}
+
+/// A list of these minimums, and past the rides any word.
+fn these_minimums(random: &Random, minimums: &[u16]) -> Part<u16> {
+    let mut others = random.others();
+    Part::given(others.length(minimums.len()), minimums, others.word())
+}
+
+/// No ride has a minimum.
+fn no_minimums(random: &Random, head: Head) -> Part<u16> {
+    these_minimums(random, &vec![0; head.rides as usize])
+}
+
 // Single calls
 
 fn build_case(random: &mut Random) -> Call {
@@ -631,7 +763,36 @@ fn peel_case(random: &mut Random) -> Call {
             }
         }
     }
-    draft.peel(alpha, beta, steps, Part::given(marks_len, &words, random.word()))
+    let mut others = random.others();
+    let is_short = others.one_in(12);
+    let minimums = some_minimums(&mut others, draft.head, beta, is_short);
+    draft.peel(alpha, beta, steps, minimums, Part::given(marks_len, &words, random.word()))
+}
+
+fn own_cover_case(random: &mut Random) -> Call {
+    let mut draft = Draft::small_or_one_sided(random);
+    let nodes = draft.head.nodes();
+    draft.words.presence = presence_of(random, nodes);
+    let mut marks = Part::filled(random.length(nodes), random.word());
+    let alpha = limit(random, draft.head.rides);
+    let beta = limit(random, draft.head.operators);
+    let mut is_short = false;
+    for _ in 0..few_faults(random) {
+        match random.below(10) {
+            0..=1 => {
+                draft.oversize(random);
+                marks.len = draft.head.nodes().min(265);
+            }
+            2 => draft.shorten_pairs(random),
+            3 => draft.lengths.presence = random.short(nodes),
+            4 => marks.len = random.short(nodes),
+            5..=6 => is_short = true,
+            7 => draft.too_many_pairs(random),
+            _ => draft.disorder(random),
+        }
+    }
+    let minimums = some_minimums(random, draft.head, beta, is_short);
+    draft.own_cover(alpha, beta, minimums, marks)
 }
 
 /// A revision. Most are small, so that many are equal; some are near 255, or far above it.
@@ -909,7 +1070,14 @@ fn kept_query(random: &mut Random, head: Head, alpha: u16, beta: u16) -> Call {
     }
 }
 
-fn kept_peel(random: &mut Random, head: Head, alpha: u16, beta: u16, steps: u16, marks: Part<u16>) -> Call {
+fn kept_peel(
+    random: &mut Random,
+    head: Head,
+    (alpha, beta): (u16, u16),
+    steps: u16,
+    minimums: Part<u16>,
+    marks: Part<u16>,
+) -> Call {
     Call::Peel {
         head,
         alpha,
@@ -918,6 +1086,7 @@ fn kept_peel(random: &mut Random, head: Head, alpha: u16, beta: u16, steps: u16,
         operators: Part::kept(random.length(head.places())),
         rides: Part::kept(random.length(head.places())),
         presence: Part::kept(random.length(head.nodes())),
+        minimums,
         marks,
     }
 }
@@ -1021,8 +1190,9 @@ fn interrupt(random: &mut Random, stream: &mut Stream, head: Head, rest: &[Messa
         }
         3 => kept_query(random, head, alpha, beta),
         _ => {
+            let minimums = some_minimums(&mut random.others(), head, beta, false);
             let marks = all_ones(random, head);
-            kept_peel(random, head, alpha, beta, 65_535, marks)
+            kept_peel(random, head, (alpha, beta), 65_535, minimums, marks)
         }
     };
     stream.call(call);
@@ -1082,12 +1252,12 @@ fn sample_calls(random: &mut Random, stream: &mut Stream) {
         stream.call(query);
     }
     for steps in [65_535, 0, 1, 2, 3, 4] {
-        let marks = all_ones(random, draft.head);
-        let peel = kept_peel(random, draft.head, 2, 2, steps, marks);
+        let (minimums, marks) = (no_minimums(random, draft.head), all_ones(random, draft.head));
+        let peel = kept_peel(random, draft.head, (2, 2), steps, minimums, marks);
         stream.call(peel);
     }
-    let settled = Part::kept(draft.head.nodes());
-    let peel = kept_peel(random, draft.head, 2, 2, 0, settled);
+    let (minimums, settled) = (no_minimums(random, draft.head), Part::kept(draft.head.nodes()));
+    let peel = kept_peel(random, draft.head, (2, 2), 0, minimums, settled);
     stream.call(peel);
     for (operators, rides) in [(200, 60), (201, 60), (200, 61), (201, 61)] {
         let mut draft = Draft::new(random, operators, rides, &[(0, 0), (3, 4), (199, 59)]);
@@ -1104,8 +1274,8 @@ fn samples_from_0(random: &mut Random, stream: &mut Stream) {
         let query = kept_query(random, draft.head, sample.alpha, sample.beta);
         let [operators, rides] = sample.counts();
         stream.gives(query, &[0, operators, rides], sample.marks);
-        let marks = all_ones(random, draft.head);
-        let peel = kept_peel(random, draft.head, sample.alpha, sample.beta, 65_535, marks);
+        let (minimums, marks) = (no_minimums(random, draft.head), all_ones(random, draft.head));
+        let peel = kept_peel(random, draft.head, (sample.alpha, sample.beta), 65_535, minimums, marks);
         stream.gives(peel, &[0, 1, sample.steps()], sample.marks);
     }
     let head = Head { operators: 2, rides: 2, pairs: 0 };
@@ -1123,8 +1293,9 @@ fn samples_from_0(random: &mut Random, stream: &mut Stream) {
     }
     let draft = with_presence(random, &[PRESENT; 7]);
     for &(marks, (alpha, beta), steps, numbers, left) in PEELS_FROM_0 {
+        let minimums = no_minimums(random, draft.head);
         let marks = Part::given(random.length(7), &marks, random.word());
-        stream.gives(draft.peel(alpha, beta, steps, marks), &numbers, &left);
+        stream.gives(draft.peel(alpha, beta, steps, minimums, marks), &numbers, &left);
     }
 }
 
@@ -1232,8 +1403,9 @@ fn sample_presence(random: &mut Random, stream: &mut Stream) {
         stream.gives(query, &[0, marks[..4].iter().sum(), marks[4..].iter().sum()], &marks);
     }
     for &(words, marks, (alpha, beta), steps, numbers, left) in PEELS {
+        let minimums = no_minimums(random, BUILT);
         let marks = Part::given(random.length(7), &marks, random.word());
-        stream.gives(with_presence(random, &words).peel(alpha, beta, steps, marks), &numbers, &left);
+        stream.gives(with_presence(random, &words).peel(alpha, beta, steps, minimums, marks), &numbers, &left);
     }
     for &(head, places, number) in SHORT_PRESENCE {
         for part in 0..3 {
@@ -1243,8 +1415,8 @@ fn sample_presence(random: &mut Random, stream: &mut Stream) {
         }
         let mut draft = Draft { head, lengths: random.lengths(head), ..with_presence(random, &[PRESENT; 7]) };
         draft.lengths.presence = places;
-        let marks = all_ones(random, head);
-        assert_eq!(stream.call(draft.peel(1, 1, 65_535, marks.clone())).0.numbers[0], number);
+        let (minimums, marks) = (no_minimums(random, head), all_ones(random, head));
+        assert_eq!(stream.call(draft.peel(1, 1, 65_535, minimums, marks.clone())).0.numbers[0], number);
         let Parts { index, presence, .. } = draft.parts();
         // A query reads no pairs.
         let number = if number == 4 { 0 } else { number };
@@ -1301,6 +1473,50 @@ fn sample_crowds(random: &mut Random, stream: &mut Stream) {
             assert_eq!(outcome.numbers, numbers);
         }
     }
+}
+
+/// Document 02's own minimums of rides, with what was worked out by hand: own covers and peels.
+fn sample_minimums(random: &mut Random, stream: &mut Stream) {
+    for sample in minimums::COVERS {
+        let mut draft = Draft::new(random, sample.operators, sample.rides, sample.pairs);
+        draft.words.presence = sample.presence.to_vec();
+        let (nodes, (alpha, beta), [operators, rides]) = (draft.head.nodes(), sample.limits, sample.counts());
+        let minimums = these_minimums(random, sample.minimums);
+        let marks = Part::filled(random.length(nodes), random.word());
+        stream.gives(draft.own_cover(alpha, beta, minimums.clone(), marks), &[0, operators, rides], sample.marks);
+        let marks = all_ones(random, draft.head);
+        stream.gives(draft.peel(alpha, beta, 65_535, minimums, marks), &[0, 1, sample.steps()], sample.marks);
+    }
+    for &(words, minimums, marks, (alpha, beta), steps, numbers, left) in minimums::PEELS {
+        let minimums = these_minimums(random, &minimums);
+        let marks = Part::given(random.length(7), &marks, random.word());
+        stream.gives(with_presence(random, &words).peel(alpha, beta, steps, minimums, marks), &numbers, &left);
+    }
+    for &(head, places, number) in minimums::SHORT {
+        let draft = with_all(random, head, &PAIRS[..(head.pairs as usize).min(7)]);
+        let minimums = Part::filled(places, random.word());
+        let marks = all_ones(random, head);
+        assert_eq!(stream.call(draft.own_cover(1, 1, minimums.clone(), marks.clone())).0.numbers[0], number);
+        assert_eq!(stream.call(draft.peel(1, 1, 65_535, minimums, marks)).0.numbers[0], number);
+    }
+    for (Lent { head, pairs, places, number }, minimums) in LENT.iter().flat_map(|lent| [2, 3].map(|len| (lent, len))) {
+        let mut draft = with_all(random, *head, pairs);
+        (draft.lengths.operators, draft.lengths.rides, draft.lengths.presence) = (places[0], places[1], places[2]);
+        let number = if minimums < 3 && ![1, 2].contains(number) { 3 } else { *number };
+        let (minimums, marks) = (Part::filled(minimums, 1), Part::filled(places[3], 7));
+        let (outcome, _) = stream.call(draft.own_cover(1, 2, minimums.clone(), marks.clone()));
+        assert_eq!(outcome.numbers, if number == 0 { [0, 4, 3] } else { [number, 0, 0] });
+        // A peel takes no mark of 7.
+        let number = if number == 0 { 12 } else { number };
+        assert_eq!(stream.call(draft.peel(1, 2, 65_535, minimums, marks)).0.numbers, [number, 0, 0]);
+    }
+}
+
+/// A board with this head, whether it fits the pairs or not, with everybody on and in.
+fn with_all(random: &mut Random, head: Head, pairs: &[Pair]) -> Draft {
+    let mut draft = Draft::new(random, head.operators, head.rides, pairs);
+    (draft.head, draft.words.presence) = (head, vec![PRESENT; head.nodes()]);
+    draft
 }
 
 /// Gives a length to one of the three parts of presence.
@@ -1430,7 +1646,15 @@ fn large_calls(random: &mut Random, stream: &mut Stream) {
             let marks = Part::given(random.length(draft.head.nodes()), &words, 5);
             let marks = if random.one_in(2) { marks } else { all_ones(random, draft.head) };
             let steps = random.pick(&[65_535, 260, 259, 30, 3, 0]);
-            let peel = kept_peel(random, draft.head, alpha, beta, steps, marks);
+            let mut others = random.others();
+            let minimum = |others: &mut Random| others.pick(&[1, mean_beta / 2, mean_beta, mean_beta + 5, 65_535]);
+            // No ride has one for three turns, then some have others three times.
+            let minimums = match turn {
+                0 => no_minimums(random, draft.head),
+                3 | 6 | 9 => these_minimums(random, &minimums_of(&mut others, rides as usize, minimum)),
+                _ => Part::kept(others.length(rides as usize)),
+            };
+            let peel = kept_peel(random, draft.head, (alpha, beta), steps, minimums, marks);
             stream.call(peel);
         }
     }
@@ -1457,6 +1681,40 @@ fn large_crowds(random: &mut Random, stream: &mut Stream) {
     }
 }
 
+/// Own covers of a board that stays, but for who is on and in and for the minimums; and a list of minimums that is short
+/// by one place.
+fn large_own_covers(random: &mut Random, stream: &mut Stream) {
+    let pairs = random.table_of(200, 60, 2_000);
+    let draft = Draft::new(random, 200, 60, &pairs);
+    let (head, nodes) = (draft.head, draft.head.nodes());
+    for turn in 0..24 {
+        let (alpha, beta) = (random.pick(&[0, 1, 5, 7, 8]), random.pick(&[0, 1, 24, 28, 33, 65_535]));
+        let Parts { operators, rides, presence, .. } =
+            if turn == 0 { draft.parts() } else { whole_parts(random, head) };
+        let presence = match turn {
+            0 => Part::filled(presence.len, PRESENT),
+            8 | 16 => Part::changed(presence.len, 0, &presence_of(random, nodes)),
+            _ => presence,
+        };
+        let minimums = match turn % 4 {
+            0 => {
+                let words = minimums_of(random, 60, |random| random.pick(&[1, 20, 24, 28, 33, 65_535]));
+                these_minimums(random, &words)
+            }
+            _ => Part::kept(random.length(60)),
+        };
+        let marks = Part::filled(random.length(nodes), random.word());
+        stream.call(Call::OwnCover { head, alpha, beta, operators, rides, presence, minimums, marks });
+    }
+    let Parts { operators, rides, presence, .. } = whole_parts(random, head);
+    let (short, marks) = (Part::kept(59), all_ones(random, head));
+    let peel = kept_peel(random, head, (1, 1), 65_535, short.clone(), marks.clone());
+    let cover = Call::OwnCover { head, alpha: 1, beta: 1, operators, rides, presence, minimums: short, marks };
+    for call in [peel, cover] {
+        assert_eq!(stream.call(call).0.numbers, [3, 0, 0]);
+    }
+}
+
 /// Pair arrays of the largest size that are wrong at one place only, and parts that are short by one place.
 fn large_refusals(random: &mut Random, stream: &mut Stream) {
     let pairs = random.table_of(200, 60, 900);
@@ -1480,8 +1738,8 @@ fn large_refusals(random: &mut Random, stream: &mut Stream) {
             }
         }
         stream.call(draft.build(1));
-        let marks = all_ones(random, draft.head);
-        stream.call(draft.peel(1, 1, 65_535, marks));
+        let (minimums, marks) = (no_minimums(random, draft.head), all_ones(random, draft.head));
+        stream.call(draft.peel(1, 1, 65_535, minimums, marks));
     }
 }
 
@@ -1592,6 +1850,12 @@ fn calls(random: &mut Random) -> Stream {
         stream.call(case);
     }
     large_crowds(random, &mut stream);
+    sample_minimums(random, &mut stream);
+    for _ in 0..400 {
+        let case = own_cover_case(random);
+        stream.call(case);
+    }
+    large_own_covers(random, &mut stream);
     write_end(&mut stream.bytes);
     let tally = &stream.tally;
     tally.covers("build", &[0, 1, 2, 3, 4, 5, 9], 60);
@@ -1608,6 +1872,13 @@ fn calls(random: &mut Random) -> Stream {
     tally.covers_kinds("crowd cover", &CROWDS, 5);
     tally.covers_kinds("crowd cover", &ZEROS[..6], 3);
     tally.covers_kinds("crowd cover", &ABSENCES[..4], 5);
+    tally.covers_kinds("peel", &MINIMUMS[..12], 30);
+    tally.covers_kinds("peel", &[SHORT_LIST], 30);
+    tally.covers("own cover", &[0, 1, 2, 3, 4, 5], 10);
+    tally.covers_kinds("own cover", &ZEROS[..6], 5);
+    tally.covers_kinds("own cover", &ABSENCES[..4], 5);
+    tally.covers_kinds("own cover", &MINIMUMS, 10);
+    tally.covers_kinds("own cover", &[SHORT_LIST], 10);
     stream
 }
 
