@@ -13,11 +13,12 @@ fn call(
     presence_stamps: &mut [u32; 270],
     presence_revisions: &mut [u16; 270],
     presence: &mut [u16; 270],
+    minimums: &mut [u16; 70],
     marks: &mut [u16; 270],
     answers: &mut [u16; 70],
 ) -> u64 {
     let kind = frames::word(frame, 0);
-    if kind < 4 {
+    if kind < 4 || kind == 8 {
         replay_tables::call(
             frame,
             lent,
@@ -29,6 +30,7 @@ fn call(
             presence_stamps,
             presence_revisions,
             presence,
+            minimums,
             marks,
         );
         0
@@ -63,6 +65,7 @@ fn step(
     presence_stamps: &mut [u32; 270],
     presence_revisions: &mut [u16; 270],
     presence: &mut [u16; 270],
+    minimums: &mut [u16; 70],
     marks: &mut [u16; 270],
     answers: &mut [u16; 70],
 ) {
@@ -76,6 +79,7 @@ fn step(
         presence_stamps,
         presence_revisions,
         presence,
+        minimums,
         marks,
         answers,
     );
@@ -90,6 +94,7 @@ fn step(
         presence_stamps,
         presence_revisions,
         presence,
+        minimums,
         marks,
         answers,
     );
@@ -104,6 +109,7 @@ fn step(
         presence_stamps,
         presence_revisions,
         presence,
+        minimums,
         marks,
         answers,
     ));
@@ -120,6 +126,7 @@ pub fn run() {
     let mut presence_stamps = [0u32; 270];
     let mut presence_revisions = [0u16; 270];
     let mut presence = [0u16; 270];
+    let mut minimums = [0u16; 70];
     let mut marks = [0u16; 270];
     let mut answers = [0u16; 70];
     for _ in 0..1000000u32 {
@@ -137,6 +144,7 @@ pub fn run() {
             &mut presence_stamps,
             &mut presence_revisions,
             &mut presence,
+            &mut minimums,
             &mut marks,
             &mut answers,
         );

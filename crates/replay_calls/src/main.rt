@@ -1,4 +1,4 @@
-// Replays builds, queries, peels and the calls that take a crowd table (reference/README.md).
+// Replays builds, queries, peels, covers with minimums and the calls that take a crowd table (reference/README.md).
 fn main() {
     replay::run();
 }

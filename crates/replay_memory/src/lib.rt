@@ -15,6 +15,7 @@ pub struct Lent {
     pub presence_stamps: usize,
     pub presence_revisions: usize,
     pub presence: usize,
+    pub minimums: usize,
     pub marks: usize,
     pub answers: usize,
 }
@@ -31,6 +32,7 @@ pub fn checksum(
     presence_stamps: &[u32; 270],
     presence_revisions: &[u16; 270],
     presence: &[u16; 270],
+    minimums: &[u16; 70],
     marks: &[u16; 270],
     answers: &[u16; 70],
 ) -> u64 {
@@ -42,7 +44,8 @@ pub fn checksum(
     let t = lent_parts::checksum_longs(i, lent.presence_stamps, presence_stamps);
     let c = lent_parts::checksum(t, lent.presence_revisions, presence_revisions);
     let p = lent_parts::checksum(c, lent.presence, presence);
-    let m = lent_parts::checksum(p, lent.marks, marks);
+    let n = lent_parts::checksum(p, lent.minimums, minimums);
+    let m = lent_parts::checksum(n, lent.marks, marks);
     lent_parts::checksum(m, lent.answers, answers)
 }
 
@@ -54,12 +57,13 @@ fn parts_at(frame: &[u8]) -> usize {
         3 => 7,
         4 => 10,
         7 => 38,
+        8 => 6,
         _ => frames::past(5, 6 * (frames::word(frame, 4) as usize)),
     }
 }
 
-// Sets the memory as the parts of a frame say. A query has no pairs, a peel and a crowd cover have no index, and none of the three has stamps or
-// revisions, of pairs or of nodes; they alone have marks. A look-up in a crowd table has no parts.
+// Sets the memory as the parts of a frame say. A query has no pairs, a peel and the covers have no index, and none of them has stamps or revisions,
+// of pairs or of nodes; they alone have marks. A peel and a cover with minimums alone have minimums. A look-up in a crowd table has no parts.
 pub fn load(
     frame: &[u8],
     operators: &mut [u16; 12300],
@@ -70,12 +74,14 @@ pub fn load(
     presence_stamps: &mut [u32; 270],
     presence_revisions: &mut [u16; 270],
     presence: &mut [u16; 270],
+    minimums: &mut [u16; 70],
     marks: &mut [u16; 270],
     answers: &mut [u16; 70],
 ) -> Lent {
     let kind = frames::word(frame, 0);
     let whole = kind == 1 || kind == 4 || kind == 5;
-    let marked = kind == 2 || kind == 3 || kind == 7;
+    let own = kind == 3 || kind == 8;
+    let marked = own || kind == 2 || kind == 7;
     let paired = kind != 2 && kind != 6;
     let o = lent_parts::load(frame, parts_at(frame), paired, operators);
     let r = lent_parts::load(frame, o.next, paired, rides);
@@ -85,7 +91,8 @@ pub fn load(
     let t = lent_parts::load_longs(frame, i.next, whole, presence_stamps);
     let c = lent_parts::load(frame, t.next, whole, presence_revisions);
     let p = lent_parts::load(frame, c.next, kind != 6, presence);
-    let m = lent_parts::load(frame, p.next, marked, marks);
+    let n = lent_parts::load(frame, p.next, own, minimums);
+    let m = lent_parts::load(frame, n.next, marked, marks);
     let a = lent_parts::load(frame, m.next, kind == 5, answers);
     Lent {
         operators: o.places,
@@ -96,6 +103,7 @@ pub fn load(
         presence_stamps: t.places,
         presence_revisions: c.places,
         presence: p.places,
+        minimums: n.places,
         marks: m.places,
         answers: a.places,
     }

@@ -1,4 +1,5 @@
-// The calls of a frame that send no message: build, query and peel, by the functions behind the exported calls.
+// The calls of a frame that send no message and take no crowd table: build, query, peel and the cover with minimums, by the functions behind the
+// exported calls.
 use frames::head;
 use replay_memory::Lent;
 
@@ -55,6 +56,7 @@ fn peel(
     operators: &[u16],
     rides: &[u16],
     presence: &[u16],
+    minimums: &[u16],
     marks: &mut [u16],
 ) {
     let alpha = frames::word(frame, 4);
@@ -63,12 +65,14 @@ fn peel(
     let o = frames::least(lent.operators, operators.len());
     let r = frames::least(lent.rides, rides.len());
     let p = frames::least(lent.presence, presence.len());
+    let n = frames::least(lent.minimums, minimums.len());
     let m = frames::least(lent.marks, marks.len());
     let peeled = peels::peel(
         head(frame),
         &operators[0..o],
         &rides[0..r],
         &presence[0..p],
+        &minimums[0..n],
         &mut marks[0..m],
         alpha,
         beta,
@@ -79,7 +83,38 @@ fn peel(
     frames::print(peeled.steps);
 }
 
-// Makes the call of a frame that is a build, a query or a peel, and writes its answer's numbers.
+fn own_cover(
+    frame: &[u8],
+    lent: Lent,
+    operators: &[u16],
+    rides: &[u16],
+    presence: &[u16],
+    minimums: &[u16],
+    marks: &mut [u16],
+) {
+    let alpha = frames::word(frame, 4);
+    let beta = frames::word(frame, 5);
+    let o = frames::least(lent.operators, operators.len());
+    let r = frames::least(lent.rides, rides.len());
+    let p = frames::least(lent.presence, presence.len());
+    let n = frames::least(lent.minimums, minimums.len());
+    let m = frames::least(lent.marks, marks.len());
+    let counts = own_covers::own_cover(
+        head(frame),
+        &operators[0..o],
+        &rides[0..r],
+        &presence[0..p],
+        &minimums[0..n],
+        alpha,
+        beta,
+        &mut marks[0..m],
+    );
+    frames::print(counts.code);
+    frames::print(counts.operators);
+    frames::print(counts.rides);
+}
+
+// Makes the call of a frame that is a build, a query, a peel or a cover with minimums, and writes its answer's numbers.
 pub fn call(
     frame: &[u8],
     lent: Lent,
@@ -91,6 +126,7 @@ pub fn call(
     presence_stamps: &mut [u32],
     presence_revisions: &mut [u16],
     presence: &mut [u16],
+    minimums: &[u16],
     marks: &mut [u16],
 ) {
     match frames::word(frame, 0) {
@@ -107,6 +143,7 @@ pub fn call(
             presence,
         ),
         2 => query(frame, lent, index, presence, marks),
-        _ => peel(frame, lent, operators, rides, presence, marks),
+        3 => peel(frame, lent, operators, rides, presence, minimums, marks),
+        _ => own_cover(frame, lent, operators, rides, presence, minimums, marks),
     }
 }

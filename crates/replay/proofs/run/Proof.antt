@@ -7,10 +7,10 @@ use Rattle.replay.proofs.run.Statement.{statement}
 use Rattle.replay.proofs.run.Tie as tie
 
 abbrev Inv-loop : tie.InvT-loop
-Inv-loop buffer₀ operators₀ rides₀ stamps₀ revisions₀ index₀ presence-stamps₀ presence-revisions₀ presence₀ marks₀ answers₀ counter₀ buffer operators rides stamps revisions index presence-stamps presence-revisions presence marks answers counter = length buffer ≡ 131070
+Inv-loop buffer₀ operators₀ rides₀ stamps₀ revisions₀ index₀ presence-stamps₀ presence-revisions₀ presence₀ minimums₀ marks₀ answers₀ counter₀ buffer operators rides stamps revisions index presence-stamps presence-revisions presence minimums marks answers counter = length buffer ≡ 131070
 
 abbrev μ-loop : tie.MeasureT-loop
-μ-loop buffer₀ operators₀ rides₀ stamps₀ revisions₀ index₀ presence-stamps₀ presence-revisions₀ presence₀ marks₀ answers₀ counter₀ buffer operators rides stamps revisions index presence-stamps presence-revisions presence marks answers counter = 1000000 - counter
+μ-loop buffer₀ operators₀ rides₀ stamps₀ revisions₀ index₀ presence-stamps₀ presence-revisions₀ presence₀ minimums₀ marks₀ answers₀ counter₀ buffer operators rides stamps revisions index presence-stamps presence-revisions presence minimums marks answers counter = 1000000 - counter
 
 pub run-spec : {M : Type 1} → statement M
 run-spec =
