@@ -2,9 +2,11 @@
 
 mod covers;
 mod crowd;
+mod own;
 
 pub use covers::{CoverTotals, LimitList, PairTable};
 pub use crowd::CrowdTotals;
+pub use own::OwnTotals;
 
 use crate::numbers::Numbers;
 use covers::CoverRegions;
@@ -30,7 +32,7 @@ impl Lent {
     }
 }
 
-/// The most places that are lent of a part, of the marks and of a list, longer than any board needs.
+/// The most places that are lent of a part, of the marks, of the minimums and of a list, longer than any board needs.
 pub const MOST: Lengths = Parts {
     operators: 12_100,
     rides: 12_100,
@@ -42,6 +44,7 @@ pub const MOST: Lengths = Parts {
     presence: 400,
 };
 pub const MARKS_MOST: usize = 400;
+pub const MINIMUMS_MOST: usize = 100;
 pub const LIST_MOST: usize = 400;
 
 /// The numbers that each call can give: document 01's, with document 02's 14 to 18 and without its 11.
@@ -52,6 +55,7 @@ const MESSAGE_NUMBERS: &[u16] = &[0, 1, 2, 3, 4, 5, 6, 7, 8, 9, 10, 14, 15];
 const LIST_NUMBERS: &[u16] = &[0, 1, 2, 3, 4, 5, 6];
 const CROWD_LIMITS_NUMBERS: &[u16] = &[0, 16, 17, 18];
 const CROWD_COVER_NUMBERS: &[u16] = &[0, 1, 2, 3, 4, 5, 16, 17, 18];
+const OWN_COVER_NUMBERS: &[u16] = &[0, 1, 2, 3, 4, 5];
 /// Those of a message of a list that isn't refused.
 const LISTED_NUMBERS: &[u16] = &[0, 7, 8, 9, 10, 14, 15];
 
@@ -73,6 +77,7 @@ fn are_parts_intact(regions: &PartRegions) -> bool {
 struct Regions {
     head: Region<Head>,
     parts: PartRegions,
+    minimums: Region<u16>,
     marks: Region<u16>,
     messages: Region<Message>,
     answers: Region<u16>,
@@ -81,13 +86,20 @@ struct Regions {
 
 impl Regions {
     fn new() -> Regions {
-        let (marks, messages, answers) = (Region::new(MARKS_MOST), Region::new(LIST_MOST), Region::new(LIST_MOST));
-        Regions { head: Region::new(1), parts: part_regions(), marks, messages, answers, spare: part_regions() }
+        Regions {
+            head: Region::new(1),
+            parts: part_regions(),
+            minimums: Region::new(MINIMUMS_MOST),
+            marks: Region::new(MARKS_MOST),
+            messages: Region::new(LIST_MOST),
+            answers: Region::new(LIST_MOST),
+            spare: part_regions(),
+        }
     }
 
     fn are_intact(&self) -> bool {
         let boards = are_parts_intact(&self.parts) && are_parts_intact(&self.spare);
-        let lists = self.messages.is_intact() && self.answers.is_intact();
+        let lists = self.minimums.is_intact() && self.messages.is_intact() && self.answers.is_intact();
         self.head.is_intact() && boards && self.marks.is_intact() && lists
     }
 }
@@ -147,20 +159,22 @@ pub struct Totals {
     pub alpha_zero: u64,
     pub beta_zero: u64,
     pub both_zero: u64,
-    /// Accepted queries, peels and crowd covers with somebody off or out.
+    /// Accepted queries, peels, own covers and crowd covers with somebody off or out.
     pub absent: u64,
     pub words: u64,
     pub largest: u64,
     pub deliveries: u64,
     pub covers: CoverTotals,
     pub crowd: CrowdTotals,
+    pub own: OwnTotals,
     pub differences: u64,
 }
 
 impl Totals {
     pub fn calls(&self) -> u64 {
         let of_messages = self.messages + self.lists + self.previews;
-        self.builds + self.queries + self.peels + of_messages + self.crowd.look_ups + self.crowd.covers
+        let of_crowds = self.crowd.look_ups + self.crowd.covers;
+        self.builds + self.queries + self.peels + self.own.covers + of_messages + of_crowds
     }
 
     /// Counts a number that a call gave.
@@ -196,7 +210,7 @@ impl Totals {
         }
     }
 
-    /// Counts an accepted query, peel or crowd cover: limits that have a 0 among them, and somebody off or out.
+    /// Counts an accepted query, peel, own cover or crowd cover: limits that have a 0 among them, and somebody off or out.
     fn accepted(&mut self, head: Head, alpha: u16, beta: u16, presence: &[u16]) {
         match (alpha, beta) {
             (0, 0) => self.both_zero += 1,
@@ -252,6 +266,14 @@ impl Totals {
         self.same("a preview, and its message then", previewed.0, sent.0);
         if previewed.1.board() != sent.1.board() {
             self.differ("the spare board is not the one that the message leaves");
+        }
+    }
+
+    /// A cover that was not refused, and a query for its limits, on a board whose index is its own, from equal marks.
+    pub fn same_as_queried(&mut self, call: &str, covered: (Counts, &[u16]), queried: (Counts, &[u16])) {
+        self.same(&format!("{call}, and a query for its limits then"), covered.0, queried.0);
+        if covered.1 != queried.1 {
+            self.differ(&format!("{call}: the marks are not those of a query for its limits"));
         }
     }
 
@@ -315,15 +337,25 @@ impl<B: Library> Compared<B> {
         expected
     }
 
-    pub fn peel(&mut self, lent: &Lent, marks: &mut [u16], alpha: u16, beta: u16, steps: u16) -> Peeled {
+    pub fn peel(
+        &mut self,
+        lent: &Lent,
+        minimums: &[u16],
+        marks: &mut [u16],
+        alpha: u16,
+        beta: u16,
+        steps: u16,
+    ) -> Peeled {
         let (before, head, words) = (marks.to_vec(), lent.head, &lent.parts);
-        let expected = Reference.peel(head, &words.operators, &words.rides, &words.presence, marks, alpha, beta, steps);
+        let Parts { operators, rides, presence, .. } = words;
+        let expected = Reference.peel(head, operators, rides, presence, minimums, marks, alpha, beta, steps);
         let Compared { library, regions, ends, totals, .. } = self;
         let operators = regions.parts.operators.lend(&words.operators, end(ends));
         let rides = regions.parts.rides.lend(&words.rides, end(ends));
         let presence = regions.parts.presence.lend(&words.presence, end(ends));
+        let read = regions.minimums.lend(minimums, end(ends));
         let left = regions.marks.lend_mut(&before, end(ends));
-        let found = library.peel(head, operators, rides, presence, left, alpha, beta, steps);
+        let found = library.peel(head, operators, rides, presence, read, left, alpha, beta, steps);
         totals.peels += 1;
         totals.number("peel", PEEL_NUMBERS, head, found.code);
         totals.settled += (found.code == 0 && found.settled == 1) as u64;
@@ -332,9 +364,11 @@ impl<B: Library> Compared<B> {
         totals.same_words("peel", "operators", operators, &words.operators);
         totals.same_words("peel", "rides", rides, &words.rides);
         totals.same_words("peel", "presence", presence, &words.presence);
+        totals.same_words("peel", "minimums", read, minimums);
         totals.same_words("peel", "marks", left, marks);
         if expected.code == 0 {
             totals.accepted(head, alpha, beta, &words.presence);
+            totals.own.count(head, minimums, beta);
         }
         self.check_filled();
         expected
@@ -418,6 +452,7 @@ mod tests {
             (LISTED_NUMBERS, 7),
             (CROWD_LIMITS_NUMBERS, 4),
             (CROWD_COVER_NUMBERS, 9),
+            (OWN_COVER_NUMBERS, 6),
         ] {
             let mut totals = Totals::default();
             (0..=20).for_each(|code| totals.number("call", can_give, head, code));
@@ -428,6 +463,24 @@ mod tests {
             let is_of_messages = [MESSAGE_NUMBERS, LISTED_NUMBERS].contains(&can_give);
             assert!((14..=15).all(|number| can_give.contains(&number) == is_of_messages));
         }
+    }
+
+    /// Another number, another count and another mark are each a difference.
+    #[test]
+    fn a_cover_that_is_not_what_a_query_gives_is_a_difference() {
+        let (counts, marks) = (Counts { code: 0, operators: 2, rides: 1 }, [1, 0, 1, 1, 7]);
+        let differences = |change: fn(&mut Counts, &mut [u16])| {
+            let (mut totals, mut queried_counts, mut queried) = (Totals::default(), counts, marks);
+            change(&mut queried_counts, &mut queried);
+            totals.same_as_queried("cover", (counts, &marks), (queried_counts, &queried));
+            totals.differences
+        };
+        assert_eq!(differences(|_, _| {}), 0);
+        assert_eq!(differences(|counts, _| counts.code = 3), 1);
+        assert_eq!(differences(|counts, _| counts.operators = 1), 1);
+        assert_eq!(differences(|counts, _| counts.rides = 2), 1);
+        assert_eq!(differences(|_, marks| marks[1] = 1), 1);
+        assert_eq!(differences(|_, marks| marks[4] = 0), 1);
     }
 
     /// Another answer, another head and another word of a part are each a difference; another word past a part's needed

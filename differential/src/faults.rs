@@ -1,10 +1,10 @@
 //! The comparison itself is tried: between the reference and itself it finds nothing, and it finds each of these faults,
 //! or the fault stops the program.
 
-use crate::compared::{Compared, CoverTotals, CrowdTotals, Totals};
+use crate::compared::{Compared, CoverTotals, CrowdTotals, OwnTotals, Totals};
 use crate::faulty::Faulty;
 use crate::numbers::Numbers;
-use crate::sequences::{covers, crowd, delivery, sequence, Size};
+use crate::sequences::{covers, crowd, delivery, own, sequence, Size};
 use reference::{GRANT, OPERATOR_OFF, OPERATOR_ON, RIDE_IN, RIDE_OUT, WITHDRAWAL};
 use std::os::unix::process::ExitStatusExt;
 use std::process::Command;
@@ -50,6 +50,8 @@ pub enum Fault {
     QueryZeroMarksAbsent,
     /// Too short words of presence are not refused.
     QueryShortPresence,
+    /// Rides are asked for the minimums of the last peel or own cover.
+    QueryUsesMinimums,
     PeelStep,
     PeelMark,
     /// Operators fall short of 1 where alpha is 0.
@@ -72,6 +74,8 @@ pub enum Fault {
     PeelAbsentMarkUnread,
     /// Too short words of presence are not refused.
     PeelShortPresence,
+    /// The minimums of a peel are read or tested otherwise.
+    PeelMinimums(WrongMinimums),
     MessageStamp,
     MessageDiffer,
     MessagePairs,
@@ -190,8 +194,16 @@ pub enum Fault {
     LookUp(WrongBands),
     /// The look-up of a crowd cover goes wrong.
     CrowdLookUp(WrongBands),
+    /// One of 16 to 18 is given before 1 to 5 by a crowd cover.
+    CrowdBeforeBoard(u16),
     /// A crowd cover goes wrong otherwise.
-    CrowdCover(WrongCrowd),
+    CrowdCover(WrongCover),
+    /// A crowd cover has the minimums of the last peel or own cover.
+    CrowdUsesMinimums,
+    /// The minimums of an own cover are read or tested otherwise.
+    OwnMinimums(WrongMinimums),
+    /// An own cover goes wrong otherwise.
+    OwnCover(WrongCover),
 }
 
 /// What is compared in one round.
@@ -203,13 +215,16 @@ const SEQUENCE_AND_DELIVERY: Round = |compared, numbers| {
 };
 const COVERS: Round = |compared, numbers| covers(compared, numbers, Size::Small);
 const CROWD: Round = |compared, numbers| (0..4).for_each(|_| crowd(compared, numbers, Size::Small));
+const OWN: Round = |compared, numbers| (0..4).for_each(|_| own(compared, numbers, Size::Small));
 
 impl Fault {
     /// The round that finds it.
     fn round(self) -> Round {
         match self {
             Fault::PairCover(_) | Fault::TableCover(_) | Fault::Tables(_) => COVERS,
-            Fault::LookUp(_) | Fault::CrowdLookUp(_) | Fault::CrowdCover(_) => CROWD,
+            Fault::LookUp(_) | Fault::CrowdLookUp(_) | Fault::CrowdBeforeBoard(_) | Fault::CrowdCover(_) => CROWD,
+            Fault::PeelMinimums(_) | Fault::OwnMinimums(_) | Fault::OwnCover(_) => OWN,
+            Fault::QueryUsesMinimums | Fault::CrowdUsesMinimums => OWN,
             _ => SEQUENCE_AND_DELIVERY,
         }
     }
@@ -339,13 +354,13 @@ pub enum WrongBands {
     LimitsThoughRefused,
 }
 
-/// How a crowd cover goes wrong otherwise.
+/// How a crowd cover or an own cover goes wrong otherwise.
 #[derive(Clone, Copy, Debug, PartialEq, Eq)]
-pub enum WrongCrowd {
-    /// One of 16 to 18 is given before 1 to 5.
-    BeforeBoard(u16),
+pub enum WrongCover {
     /// 12 is given where a mark in use is not 0 or 1.
     Twelve,
+    /// 11 is given where a limit is 0.
+    ZeroRefused,
     /// A part that is too short is not refused.
     Short(usize),
     /// Too few marks are not refused.
@@ -374,6 +389,67 @@ pub enum WrongCrowd {
     WritesPast,
     /// A byte of a part that is lent to be read is written.
     Writes(usize),
+}
+
+/// How the minimums of a peel or an own cover are read or tested otherwise.
+#[derive(Clone, Copy, Debug, PartialEq, Eq)]
+pub enum WrongMinimums {
+    /// They are read and tested as they should be.
+    None,
+    /// No minimum is read.
+    Unread,
+    /// A minimum smaller than beta isn't used: the limit is the larger of both.
+    SmallerUnused,
+    /// A minimum larger than beta isn't used.
+    LargerUnused,
+    /// The limit is the smaller of beta and the minimum, 0 included.
+    SmallerOfBoth,
+    /// The limit is the sum of both.
+    Added,
+    /// A minimum of 0 is a limit of 0.
+    ZeroIsLimit,
+    /// Where beta is 0 no minimum is read.
+    NoneUnderBetaZero,
+    /// Of a minimum the low byte is read.
+    LowByte,
+    /// 65535 is none.
+    MostIsNone,
+    /// A minimum above the number of operators is none.
+    TooManyIsNone,
+    /// A ride that has just its minimum falls short.
+    NotEnough,
+    /// The minimum at the next place is read.
+    NextPlace,
+    /// The minimum at the place before is read, and the first ride has none.
+    PlaceBefore,
+    /// Minimums are read as if they lay as marks do.
+    PlaceAsMarks,
+    /// The first ride's minimum is that of all.
+    OfFirst,
+    /// The last ride's minimum isn't read.
+    LastUnread,
+    /// They are the operators', and the rides have none.
+    OfOperators,
+    /// They are the operators' too.
+    OfOperatorsToo,
+    /// A ride that is out is in where it has a minimum.
+    OutIsIn,
+    /// A list that is too short is not refused; rides past its end have none.
+    ShortAccepted,
+    /// A list that is too short is refused before 1 and 2.
+    ShortFirst,
+    /// A list that is too short is refused after this number.
+    ShortAfter(u16),
+    /// 3 is given where the list is longer than the rides.
+    LongRefused,
+    /// 3 is given where the list is shorter than operators and rides together.
+    NodesNeeded,
+    /// This number is given where a minimum is above 200.
+    LargeRefused(u16),
+    /// A byte of the list is written.
+    Written,
+    /// The word past the end of the list is read.
+    ReadPast,
 }
 
 /// How words of presence are read where it isn't as they should be.
@@ -418,6 +494,7 @@ const FAULTS: &[Fault] = &[
     Fault::QueryPresence(Reading::LowByte),
     Fault::QueryZeroMarksAbsent,
     Fault::QueryShortPresence,
+    Fault::QueryUsesMinimums,
     Fault::PeelStep,
     Fault::PeelMark,
     Fault::PeelAlphaZeroIsOne,
@@ -433,6 +510,34 @@ const FAULTS: &[Fault] = &[
     Fault::PeelRidesOutFirst,
     Fault::PeelAbsentMarkUnread,
     Fault::PeelShortPresence,
+    Fault::PeelMinimums(WrongMinimums::Unread),
+    Fault::PeelMinimums(WrongMinimums::SmallerUnused),
+    Fault::PeelMinimums(WrongMinimums::LargerUnused),
+    Fault::PeelMinimums(WrongMinimums::SmallerOfBoth),
+    Fault::PeelMinimums(WrongMinimums::Added),
+    Fault::PeelMinimums(WrongMinimums::ZeroIsLimit),
+    Fault::PeelMinimums(WrongMinimums::NoneUnderBetaZero),
+    Fault::PeelMinimums(WrongMinimums::LowByte),
+    Fault::PeelMinimums(WrongMinimums::MostIsNone),
+    Fault::PeelMinimums(WrongMinimums::TooManyIsNone),
+    Fault::PeelMinimums(WrongMinimums::NotEnough),
+    Fault::PeelMinimums(WrongMinimums::NextPlace),
+    Fault::PeelMinimums(WrongMinimums::PlaceBefore),
+    Fault::PeelMinimums(WrongMinimums::PlaceAsMarks),
+    Fault::PeelMinimums(WrongMinimums::OfFirst),
+    Fault::PeelMinimums(WrongMinimums::LastUnread),
+    Fault::PeelMinimums(WrongMinimums::OfOperators),
+    Fault::PeelMinimums(WrongMinimums::OfOperatorsToo),
+    Fault::PeelMinimums(WrongMinimums::OutIsIn),
+    Fault::PeelMinimums(WrongMinimums::ShortAccepted),
+    Fault::PeelMinimums(WrongMinimums::ShortFirst),
+    Fault::PeelMinimums(WrongMinimums::ShortAfter(4)),
+    Fault::PeelMinimums(WrongMinimums::ShortAfter(5)),
+    Fault::PeelMinimums(WrongMinimums::ShortAfter(12)),
+    Fault::PeelMinimums(WrongMinimums::LongRefused),
+    Fault::PeelMinimums(WrongMinimums::NodesNeeded),
+    Fault::PeelMinimums(WrongMinimums::LargeRefused(3)),
+    Fault::PeelMinimums(WrongMinimums::LargeRefused(11)),
     Fault::MessageStamp,
     Fault::MessageDiffer,
     Fault::MessagePairs,
@@ -617,27 +722,75 @@ const FAULTS: &[Fault] = &[
     Fault::CrowdLookUp(WrongBands::LimitsOfFirst),
     Fault::CrowdLookUp(WrongBands::LimitsExchanged),
     Fault::CrowdLookUp(WrongBands::LastExcluded),
-    Fault::CrowdCover(WrongCrowd::BeforeBoard(16)),
-    Fault::CrowdCover(WrongCrowd::BeforeBoard(17)),
-    Fault::CrowdCover(WrongCrowd::BeforeBoard(18)),
-    Fault::CrowdCover(WrongCrowd::Twelve),
-    Fault::CrowdCover(WrongCrowd::Short(OPERATORS)),
-    Fault::CrowdCover(WrongCrowd::Short(RIDES)),
-    Fault::CrowdCover(WrongCrowd::Short(PRESENCE)),
-    Fault::CrowdCover(WrongCrowd::ShortMarks),
-    Fault::CrowdCover(WrongCrowd::Presence(Reading::OffIsOn)),
-    Fault::CrowdCover(WrongCrowd::Presence(Reading::OutIsIn)),
-    Fault::CrowdCover(WrongCrowd::Presence(Reading::NotZero)),
-    Fault::CrowdCover(WrongCrowd::Presence(Reading::LowByte)),
-    Fault::CrowdCover(WrongCrowd::ZeroKeepsAbsent),
-    Fault::CrowdCover(WrongCrowd::DegreesAlone),
-    Fault::CrowdCover(WrongCrowd::SweptOnce),
-    Fault::CrowdCover(WrongCrowd::MarksAsCame),
-    Fault::CrowdCover(WrongCrowd::MarksPastNodes),
-    Fault::CrowdCover(WrongCrowd::MarksThoughRefused),
-    Fault::CrowdCover(WrongCrowd::CountsThoughRefused),
-    Fault::CrowdCover(WrongCrowd::CountsExchanged),
-    Fault::CrowdCover(WrongCrowd::WritesBeside),
+    Fault::CrowdBeforeBoard(16),
+    Fault::CrowdBeforeBoard(17),
+    Fault::CrowdBeforeBoard(18),
+    Fault::CrowdCover(WrongCover::Twelve),
+    Fault::CrowdCover(WrongCover::ZeroRefused),
+    Fault::CrowdCover(WrongCover::Short(OPERATORS)),
+    Fault::CrowdCover(WrongCover::Short(RIDES)),
+    Fault::CrowdCover(WrongCover::Short(PRESENCE)),
+    Fault::CrowdCover(WrongCover::ShortMarks),
+    Fault::CrowdCover(WrongCover::Presence(Reading::OffIsOn)),
+    Fault::CrowdCover(WrongCover::Presence(Reading::OutIsIn)),
+    Fault::CrowdCover(WrongCover::Presence(Reading::NotZero)),
+    Fault::CrowdCover(WrongCover::Presence(Reading::LowByte)),
+    Fault::CrowdCover(WrongCover::ZeroKeepsAbsent),
+    Fault::CrowdCover(WrongCover::DegreesAlone),
+    Fault::CrowdCover(WrongCover::SweptOnce),
+    Fault::CrowdCover(WrongCover::MarksAsCame),
+    Fault::CrowdCover(WrongCover::MarksPastNodes),
+    Fault::CrowdCover(WrongCover::MarksThoughRefused),
+    Fault::CrowdCover(WrongCover::CountsThoughRefused),
+    Fault::CrowdCover(WrongCover::CountsExchanged),
+    Fault::CrowdCover(WrongCover::WritesBeside),
+    Fault::CrowdUsesMinimums,
+    Fault::OwnMinimums(WrongMinimums::Unread),
+    Fault::OwnMinimums(WrongMinimums::SmallerUnused),
+    Fault::OwnMinimums(WrongMinimums::LargerUnused),
+    Fault::OwnMinimums(WrongMinimums::SmallerOfBoth),
+    Fault::OwnMinimums(WrongMinimums::Added),
+    Fault::OwnMinimums(WrongMinimums::ZeroIsLimit),
+    Fault::OwnMinimums(WrongMinimums::NoneUnderBetaZero),
+    Fault::OwnMinimums(WrongMinimums::LowByte),
+    Fault::OwnMinimums(WrongMinimums::MostIsNone),
+    Fault::OwnMinimums(WrongMinimums::TooManyIsNone),
+    Fault::OwnMinimums(WrongMinimums::NotEnough),
+    Fault::OwnMinimums(WrongMinimums::NextPlace),
+    Fault::OwnMinimums(WrongMinimums::PlaceBefore),
+    Fault::OwnMinimums(WrongMinimums::PlaceAsMarks),
+    Fault::OwnMinimums(WrongMinimums::OfFirst),
+    Fault::OwnMinimums(WrongMinimums::LastUnread),
+    Fault::OwnMinimums(WrongMinimums::OfOperators),
+    Fault::OwnMinimums(WrongMinimums::OfOperatorsToo),
+    Fault::OwnMinimums(WrongMinimums::OutIsIn),
+    Fault::OwnMinimums(WrongMinimums::ShortAccepted),
+    Fault::OwnMinimums(WrongMinimums::ShortFirst),
+    Fault::OwnMinimums(WrongMinimums::ShortAfter(4)),
+    Fault::OwnMinimums(WrongMinimums::ShortAfter(5)),
+    Fault::OwnMinimums(WrongMinimums::LongRefused),
+    Fault::OwnMinimums(WrongMinimums::NodesNeeded),
+    Fault::OwnMinimums(WrongMinimums::LargeRefused(3)),
+    Fault::OwnMinimums(WrongMinimums::LargeRefused(16)),
+    Fault::OwnCover(WrongCover::Twelve),
+    Fault::OwnCover(WrongCover::ZeroRefused),
+    Fault::OwnCover(WrongCover::Short(OPERATORS)),
+    Fault::OwnCover(WrongCover::Short(RIDES)),
+    Fault::OwnCover(WrongCover::Short(PRESENCE)),
+    Fault::OwnCover(WrongCover::ShortMarks),
+    Fault::OwnCover(WrongCover::Presence(Reading::OffIsOn)),
+    Fault::OwnCover(WrongCover::Presence(Reading::OutIsIn)),
+    Fault::OwnCover(WrongCover::Presence(Reading::NotZero)),
+    Fault::OwnCover(WrongCover::Presence(Reading::LowByte)),
+    Fault::OwnCover(WrongCover::ZeroKeepsAbsent),
+    Fault::OwnCover(WrongCover::DegreesAlone),
+    Fault::OwnCover(WrongCover::SweptOnce),
+    Fault::OwnCover(WrongCover::MarksAsCame),
+    Fault::OwnCover(WrongCover::MarksPastNodes),
+    Fault::OwnCover(WrongCover::MarksThoughRefused),
+    Fault::OwnCover(WrongCover::CountsThoughRefused),
+    Fault::OwnCover(WrongCover::CountsExchanged),
+    Fault::OwnCover(WrongCover::WritesBeside),
 ];
 
 /// Faults that stop the program.
@@ -663,16 +816,24 @@ const STOPS: &[Fault] = &[
     Fault::Tables(WrongTables::Writes(CoverPart::Operators)),
     Fault::Tables(WrongTables::Writes(CoverPart::Rides)),
     Fault::Tables(WrongTables::Writes(CoverPart::Here)),
-    Fault::CrowdCover(WrongCrowd::WritesPast),
-    Fault::CrowdCover(WrongCrowd::Writes(OPERATORS)),
-    Fault::CrowdCover(WrongCrowd::Writes(RIDES)),
-    Fault::CrowdCover(WrongCrowd::Writes(PRESENCE)),
+    Fault::CrowdCover(WrongCover::WritesPast),
+    Fault::CrowdCover(WrongCover::Writes(OPERATORS)),
+    Fault::CrowdCover(WrongCover::Writes(RIDES)),
+    Fault::CrowdCover(WrongCover::Writes(PRESENCE)),
+    Fault::PeelMinimums(WrongMinimums::Written),
+    Fault::PeelMinimums(WrongMinimums::ReadPast),
+    Fault::OwnMinimums(WrongMinimums::Written),
+    Fault::OwnMinimums(WrongMinimums::ReadPast),
+    Fault::OwnCover(WrongCover::WritesPast),
+    Fault::OwnCover(WrongCover::Writes(OPERATORS)),
+    Fault::OwnCover(WrongCover::Writes(RIDES)),
+    Fault::OwnCover(WrongCover::Writes(PRESENCE)),
 ];
 
 /// What so many rounds find, until it is enough.
 fn found(fault: Fault, round: Round, enough: fn(&Totals) -> bool) -> Totals {
     let mut numbers = Numbers::new(1);
-    let mut compared = Compared::new(Faulty(fault), 1);
+    let mut compared = Compared::new(Faulty::new(fault), 1);
     for _ in 0..600 {
         round(&mut compared, &mut numbers);
         if enough(&compared.totals) {
@@ -684,7 +845,7 @@ fn found(fault: Fault, round: Round, enough: fn(&Totals) -> bool) -> Totals {
 
 /// Among the calls are previews that give each of 0 to 10, 14 and 15, whose message is then sent, and whose spare
 /// memory is then the board; messages of all six kinds are taken; queries and peels are accepted with somebody off or
-/// out; a query is made for the limits of a crowd cover.
+/// out; a query is made for the limits of a crowd cover and of an own cover, and a peel after an own cover.
 #[test]
 fn the_reference_does_not_differ_from_itself() {
     let totals = found(Fault::None, SEQUENCE_AND_DELIVERY, |totals| totals.deliveries == 200);
@@ -693,6 +854,7 @@ fn the_reference_does_not_differ_from_itself() {
     assert!(totals.sent > 0 && totals.exchanged > 0, "{} {}", totals.sent, totals.exchanged);
     assert!(totals.taken_kinds.keys().copied().eq(1..=6), "{:?}", totals.taken_kinds);
     assert!(totals.absent > 0 && totals.crowd.queried > 0, "{} {}", totals.absent, totals.crowd.queried);
+    assert!(totals.own.queried > 0 && totals.own.peeled > 0, "{} {}", totals.own.queried, totals.own.peeled);
 }
 
 /// Some nodes are dropped and some are kept.
@@ -713,6 +875,25 @@ fn look_ups_and_crowd_covers_of_the_reference_do_not_differ() {
     let CrowdTotals { look_up_numbers, cover_numbers, .. } = totals.crowd;
     assert!(look_up_numbers.keys().copied().eq([0, 16, 17, 18]), "{look_up_numbers:?}");
     assert!(cover_numbers.keys().copied().eq((0..=5).chain(16..=18)), "{cover_numbers:?}");
+}
+
+/// Each number that an own cover can give is given, and there are lists of minimums of all sorts.
+#[test]
+fn own_covers_of_the_reference_do_not_differ() {
+    let totals = found(Fault::None, OWN, |_| false);
+    assert_eq!(totals.differences, 0);
+    let OwnTotals { numbers, without, some, all, below, above, longer, .. } = totals.own;
+    assert!(numbers.keys().copied().eq(0..=5), "{numbers:?}");
+    let lists = [without, some, all, below, above, longer];
+    assert!(lists.iter().all(|count| *count > 100), "{lists:?}");
+}
+
+/// A peel and an own cover that are faulty in nothing but that they are found by another program.
+#[test]
+fn minimums_read_as_they_should_be_do_not_differ() {
+    for fault in [Fault::PeelMinimums(WrongMinimums::None), Fault::OwnMinimums(WrongMinimums::None)] {
+        assert_eq!(found(fault, OWN, |_| false).differences, 0, "{fault:?}");
+    }
 }
 
 #[test]

@@ -2,11 +2,15 @@
 
 mod covers;
 mod crowd;
+mod found;
+mod own;
 
 use crate::faults::{Fault, Reading};
 use crate::faults::{INDEX, OPERATORS, PRESENCE, PRESENCE_REVISIONS, PRESENCE_STAMPS, REVISIONS, RIDES, STAMPS};
 use differential::guarded::PAGE;
 use differential::Library;
+use found::Lent;
+use own::Asked;
 use reference::crowd::{Bands, CrowdLimits};
 use reference::frames::{Board, Reference};
 use reference::{Answer, Counts, Head, Lengths, Message, Parts, Peeled, Slices, Vectors, Views};
@@ -197,8 +201,14 @@ fn take(head: &mut Head, parts: &mut Slices, one: Message) -> Answer {
     answer
 }
 
-/// The reference with a fault.
-pub struct Faulty(pub Fault);
+/// The reference with a fault, and the minimums of the last peel or own cover.
+pub struct Faulty(Fault, Vec<u16>);
+
+impl Faulty {
+    pub fn new(fault: Fault) -> Faulty {
+        Faulty(fault, Vec::new())
+    }
+}
 
 impl Board for Faulty {
     fn build(&mut self, head: Head, parts: &mut Slices, start: u32) -> u16 {
@@ -247,6 +257,7 @@ impl Board for Faulty {
         match (self.0, counts.code) {
             (Fault::QueryMark, 0) => spoil(marks),
             (Fault::QueryCount, 0) => counts.rides += 1,
+            (Fault::QueryUsesMinimums, 0) => return self.query_with(head, index, presence, alpha, marks),
             (Fault::QueryZeroRefused, 0) if alpha == 0 || beta == 0 => {
                 marks.copy_from_slice(&before);
                 return Counts { code: 11, operators: 0, rides: 0 };
@@ -262,13 +273,20 @@ impl Board for Faulty {
         operators: &[u16],
         rides: &[u16],
         presence: &[u16],
+        minimums: &[u16],
         marks: &mut [u16],
         alpha: u16,
         beta: u16,
         steps: u16,
     ) -> Peeled {
+        self.1 = minimums.to_vec();
+        let lent = Lent { head, operators, rides, presence };
+        if let Some(peeled) = self.peel_with(Asked { lent, minimums, alpha, beta }, marks, steps) {
+            return peeled;
+        }
         let before = marks.to_vec();
-        let number = Reference.peel(head, operators, rides, presence, &mut before.clone(), alpha, beta, steps).code;
+        let mut left = before.clone();
+        let number = Reference.peel(head, operators, rides, presence, minimums, &mut left, alpha, beta, steps).code;
         let nodes = head.nodes();
         let is_absent = |node: usize| presence[node] != PRESENT;
         let (mut read_alpha, mut read_beta, mut words) = (alpha, beta, presence.to_vec());
@@ -302,7 +320,9 @@ impl Board for Faulty {
             (Fault::PeelShortPresence, 3) if presence.len() < nodes => words = vec![PRESENT; nodes],
             _ => {}
         }
-        let mut peeled = Reference.peel(sizes, &pairs.0, &pairs.1, &words, marks, read_alpha, read_beta, steps - first);
+        let steps = steps - first;
+        let mut peeled =
+            Reference.peel(sizes, &pairs.0, &pairs.1, &words, minimums, marks, read_alpha, read_beta, steps);
         peeled.steps += first;
         match (self.0, peeled.code) {
             (Fault::PeelStep, 0) => peeled.steps += 1,
@@ -314,6 +334,22 @@ impl Board for Faulty {
             _ => {}
         }
         peeled
+    }
+
+    fn own_cover(
+        &mut self,
+        head: Head,
+        operators: &[u16],
+        rides: &[u16],
+        presence: &[u16],
+        minimums: &[u16],
+        alpha: u16,
+        beta: u16,
+        marks: &mut [u16],
+    ) -> Counts {
+        self.1 = minimums.to_vec();
+        let lent = Lent { head, operators, rides, presence };
+        self.cover_with(Asked { lent, minimums, alpha, beta }, marks)
     }
 
     fn message(&mut self, head: &mut Head, parts: &mut Slices, message: Message) -> Answer {
@@ -373,7 +409,7 @@ impl Board for Faulty {
         guests: u16,
         marks: &mut [u16],
     ) -> Counts {
-        self.cover_for(crowd::Lent { head, operators, rides, presence }, &bands, guests, marks)
+        self.cover_for(Lent { head, operators, rides, presence }, &bands, guests, marks)
     }
 }
 

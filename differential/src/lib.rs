@@ -154,6 +154,7 @@ impl Board for Proved {
         operators: &[u16],
         rides: &[u16],
         presence: &[u16],
+        minimums: &[u16],
         marks: &mut [u16],
         alpha: u16,
         beta: u16,
@@ -168,6 +169,8 @@ impl Board for Proved {
                 rides.len(),
                 presence.as_ptr(),
                 presence.len(),
+                minimums.as_ptr(),
+                minimums.len(),
                 marks.as_mut_ptr(),
                 marks.len(),
                 alpha,
@@ -176,6 +179,37 @@ impl Board for Proved {
             )
         };
         Peeled { code: peeled.code, settled: peeled.settled, steps: peeled.steps }
+    }
+
+    fn own_cover(
+        &mut self,
+        head: Head,
+        operators: &[u16],
+        rides: &[u16],
+        presence: &[u16],
+        minimums: &[u16],
+        alpha: u16,
+        beta: u16,
+        marks: &mut [u16],
+    ) -> Counts {
+        let counts = unsafe {
+            exported::board_own_cover(
+                head_of(head),
+                operators.as_ptr(),
+                operators.len(),
+                rides.as_ptr(),
+                rides.len(),
+                presence.as_ptr(),
+                presence.len(),
+                minimums.as_ptr(),
+                minimums.len(),
+                alpha,
+                beta,
+                marks.as_mut_ptr(),
+                marks.len(),
+            )
+        };
+        counts_of(counts)
     }
 
     fn message(&mut self, head: &mut Head, parts: &mut Slices, message: Message) -> Answer {

@@ -1,5 +1,5 @@
-//! Random sequences of the calls, look-ups and crowd covers, and covers under lists of limits, on the library and on the
-//! reference, for so many seconds, from a seed.
+//! Random sequences of the calls, look-ups and crowd covers, own covers, and covers under lists of limits, on the library
+//! and on the reference, for so many seconds, from a seed.
 
 mod compared;
 #[cfg(test)]
@@ -12,7 +12,7 @@ mod sequences;
 use compared::{Compared, Totals};
 use differential::Proved;
 use numbers::Numbers;
-use sequences::{covers, crowd, delivery, sequence, Size};
+use sequences::{covers, crowd, delivery, own, sequence, Size};
 use std::time::{Duration, Instant, SystemTime, UNIX_EPOCH};
 
 fn print_totals(totals: &Totals) {
@@ -27,13 +27,25 @@ fn print_totals(totals: &Totals) {
         "  look-up {}, crowd cover {}, a query for its limits then made {}",
         totals.crowd.look_ups, totals.crowd.covers, totals.crowd.queried
     );
+    println!(
+        "  own cover {}, a peel from all ones then made {}, a query for its limits then made {}",
+        totals.own.covers, totals.own.peeled, totals.own.queried
+    );
     println!("  accepted on boards of 200 × 60: {}", totals.largest);
     println!("  peels settled {}, unsettled {}", totals.settled, totals.unsettled);
     println!(
         "  accepted with α = 0 alone {}, with β = 0 alone {}, with both 0 {}",
         totals.alpha_zero, totals.beta_zero, totals.both_zero
     );
-    println!("  accepted queries, peels and crowd covers with somebody off or out {}", totals.absent);
+    println!("  accepted queries, peels, own covers and crowd covers with somebody off or out {}", totals.absent);
+    println!(
+        "  accepted peels and own covers with minimums of no ride {}, of some {}, of all {}",
+        totals.own.without, totals.own.some, totals.own.all
+    );
+    println!(
+        "  with a minimum below β {}, with one above it {}, with words past the rides {}",
+        totals.own.below, totals.own.above, totals.own.longer
+    );
     println!("  messages taken, by kind: {:?}", totals.taken_kinds);
     println!("  answers by number: {:?}", totals.numbers);
     println!("  answers of previews: {:?}", totals.preview_numbers);
@@ -45,6 +57,7 @@ fn print_totals(totals: &Totals) {
         "  tables of bands by these: valid {valid}, malformed or asked for more than 20,000 guests {malformed}, \
          overlapping {overlapping}, gapped {gapped}"
     );
+    println!("  answers of own covers: {:?}", totals.own.numbers);
     println!("message sets delivered in three orders: {}", totals.deliveries);
     println!("covers under a list of limits compared: {}", totals.covers.compared());
     println!(
@@ -57,9 +70,10 @@ fn print_totals(totals: &Totals) {
     println!("differences: {}", totals.differences);
 }
 
-/// After each sequence or delivery covers are compared on so many boards, and crowd covers on so many others.
+/// After each sequence or delivery covers are compared on so many boards, and crowd covers and own covers on so many others.
 const COVER_BOARDS: usize = 4;
 const CROWD_BOARDS: usize = 3;
+const OWN_BOARDS: usize = 3;
 
 /// The size of such a board: most of them are small.
 fn cover_size(numbers: &mut Numbers) -> Size {
@@ -97,6 +111,10 @@ fn main() {
         for _ in 0..CROWD_BOARDS {
             let size = cover_size(&mut numbers);
             crowd(&mut compared, &mut numbers, size);
+        }
+        for _ in 0..OWN_BOARDS {
+            let size = cover_size(&mut numbers);
+            own(&mut compared, &mut numbers, size);
         }
         if Duration::from_secs(10) <= told.elapsed() {
             let totals = &compared.totals;

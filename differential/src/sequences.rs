@@ -1,11 +1,13 @@
 //! Random sequences of calls, with damaged input among them, deliveries of the same messages in several orders, look-ups
-//! and crowd covers, and covers under lists of limits.
+//! and crowd covers, own covers, and covers under lists of limits.
 
 mod covers;
 mod crowd;
+mod own;
 
 pub use covers::covers;
 pub use crowd::crowd;
+pub use own::own;
 
 use crate::compared::{Compared, Lent, LIST_MOST, MARKS_MOST, MOST};
 use crate::numbers::Numbers;
@@ -268,6 +270,16 @@ fn any_marks(numbers: &mut Numbers, needed: usize) -> Vec<u16> {
     (0..length(numbers, needed)).map(|_| numbers.of(&words)).collect()
 }
 
+/// The same for a cover on a board, now and then of another length.
+fn cover_marks(numbers: &mut Numbers, head: Head) -> Vec<u16> {
+    let mut marks = any_marks(numbers, head.nodes());
+    if numbers.one_in(10) {
+        resize(numbers, &mut marks, MARKS_MOST);
+    }
+    marks.truncate(MARKS_MOST);
+    marks
+}
+
 /// A revision: mostly a small one, so that many are equal; some are near 255, or far above it.
 fn revision(numbers: &mut Numbers) -> u16 {
     match numbers.below(20) {
@@ -387,13 +399,26 @@ fn preview<B: Library>(compared: &mut Compared<B>, numbers: &mut Numbers, board:
     }
 }
 
-/// A board for a query or peel, one in three times with other words of presence than it has.
+/// A board for a query, a peel or a cover, one in three times with other words of presence than it has.
 fn asked(numbers: &mut Numbers, board: &Lent) -> Lent {
     let mut asked = board.clone();
     if numbers.one_in(3) {
         asked.parts.presence = presence(numbers, board.parts.presence.len());
     }
     asked
+}
+
+/// A peel from any marks, with any minimums and any number of allowed steps.
+fn peel<B: Library>(compared: &mut Compared<B>, numbers: &mut Numbers, board: &Lent) {
+    let (alpha, beta) = limits(numbers, board.head);
+    let minimums = own::minimums(numbers, board.head, beta);
+    let mut marks = marks(numbers, board.head);
+    let steps = match numbers.below(4) {
+        0 => 65535,
+        1 => numbers.below(4) as u16,
+        _ => numbers.below(board.head.nodes() + 1) as u16,
+    };
+    compared.peel(&asked(numbers, board), &minimums, &mut marks, alpha, beta, steps);
 }
 
 /// A board that is built, and then queried, peeled, sent messages and previewed; some calls are given damaged input. In
@@ -428,16 +453,7 @@ pub fn sequence<B: Library>(compared: &mut Compared<B>, numbers: &mut Numbers, s
                 let mut marks = marks(numbers, board.head);
                 compared.query(&asked(numbers, &board), alpha, beta, &mut marks);
             }
-            3..=4 => {
-                let (alpha, beta) = limits(numbers, board.head);
-                let mut marks = marks(numbers, board.head);
-                let steps = match numbers.below(4) {
-                    0 => 65535,
-                    1 => numbers.below(4) as u16,
-                    _ => numbers.below(board.head.nodes() + 1) as u16,
-                };
-                compared.peel(&asked(numbers, &board), &mut marks, alpha, beta, steps);
-            }
+            3..=4 => peel(compared, numbers, &board),
             5..=6 => {
                 let one = message(numbers, &board);
                 compared.message(&mut board, one);
@@ -579,7 +595,7 @@ fn worked_out(built: &Lent, book: &Book) -> Lent {
 
 /// Demand 3 on the library itself: the same messages in three orders, one the reverse of another and one with repeats,
 /// leave the same board, the one that is worked out from the latest message of each pair, operator and ride. Its index is
-/// its own, so that crowd covers on it are those of queries.
+/// its own, so that crowd covers on it are those of queries, and so are own covers where all rides have one limit.
 pub fn delivery<B: Library>(compared: &mut Compared<B>, numbers: &mut Numbers, size: Size) {
     let (n, m) = size.numbers(numbers);
     let pairs = table(numbers, n, m);
@@ -609,4 +625,5 @@ pub fn delivery<B: Library>(compared: &mut Compared<B>, numbers: &mut Numbers, s
     }
     compared.totals.deliveries += 1;
     crowd::queried(compared, numbers, &expected);
+    own::queried(compared, numbers, &expected);
 }

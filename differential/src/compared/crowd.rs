@@ -1,6 +1,6 @@
 //! One look-up or crowd cover on the library and on the reference: the answers and every lent word are compared.
 
-use super::{end, Compared, Given, Lent, Totals, CROWD_COVER_NUMBERS, CROWD_LIMITS_NUMBERS};
+use super::{end, Compared, Given, Lent, CROWD_COVER_NUMBERS, CROWD_LIMITS_NUMBERS};
 use differential::Library;
 use reference::crowd::{crowd_cover, crowd_limits, Bands, CrowdLimits};
 use reference::Counts;
@@ -20,17 +20,6 @@ impl CrowdTotals {
     /// For how many tables a look-up or a crowd cover gave a number.
     pub fn tables(&self, number: u16) -> u64 {
         [&self.look_up_numbers, &self.cover_numbers].into_iter().filter_map(|given| given.get(&number)).sum()
-    }
-}
-
-impl Totals {
-    /// A crowd cover that was not refused, and a query for its limits, on a board whose index is its own, from equal marks.
-    pub fn same_as_queried(&mut self, covered: (Counts, &[u16]), queried: (Counts, &[u16])) {
-        self.crowd.queried += 1;
-        self.same("a crowd cover, and a query for its limits then", covered.0, queried.0);
-        if covered.1 != queried.1 {
-            self.differ("the marks of a crowd cover are not those of a query for its limits");
-        }
     }
 }
 
@@ -70,28 +59,5 @@ impl<B: Library> Compared<B> {
         }
         self.check_filled();
         expected
-    }
-}
-
-#[cfg(test)]
-mod tests {
-    use super::*;
-
-    /// Another number, another count and another mark are each a difference.
-    #[test]
-    fn a_crowd_cover_that_is_not_what_a_query_gives_is_a_difference() {
-        let (counts, marks) = (Counts { code: 0, operators: 2, rides: 1 }, [1, 0, 1, 1, 7]);
-        let differences = |change: fn(&mut Counts, &mut [u16])| {
-            let (mut totals, mut queried_counts, mut queried) = (Totals::default(), counts, marks);
-            change(&mut queried_counts, &mut queried);
-            totals.same_as_queried((counts, &marks), (queried_counts, &queried));
-            totals.differences
-        };
-        assert_eq!(differences(|_, _| {}), 0);
-        assert_eq!(differences(|counts, _| counts.code = 3), 1);
-        assert_eq!(differences(|counts, _| counts.operators = 1), 1);
-        assert_eq!(differences(|counts, _| counts.rides = 2), 1);
-        assert_eq!(differences(|_, marks| marks[1] = 1), 1);
-        assert_eq!(differences(|_, marks| marks[4] = 0), 1);
     }
 }

@@ -1,11 +1,10 @@
 //! Look-ups and crowd covers, with a fault.
 
-use super::covers::swept_once;
-use super::{bytes, counting, spoil, write_beside, write_byte, Faulty};
-use crate::faults::{Fault, WrongBands, WrongCrowd, OPERATORS, RIDES};
+use super::found::{refused, Lent};
+use super::Faulty;
+use crate::faults::{Fault, WrongBands};
 use reference::crowd::{crowd_cover, crowd_limits, Band, Bands, CrowdLimits, BANDS_MOST, GUESTS_MOST};
-use reference::frames::{Board, Reference};
-use reference::{Counts, Head, PRESENT};
+use reference::{own_cover, Counts};
 
 /// The bands of a table that are read.
 fn read(table: &Bands) -> &[Band] {
@@ -157,24 +156,9 @@ fn whole(limits: CrowdLimits) -> Bands {
     table
 }
 
-/// The counts of marks that are left.
-fn counted(head: Head, marks: &[u16]) -> Counts {
-    let (operators, rides) = marks[..head.nodes()].split_at(head.operators as usize);
-    Counts { code: 0, operators: operators.iter().sum(), rides: rides.iter().sum() }
-}
-
-/// What a crowd cover is lent to read.
-#[derive(Clone, Copy)]
-pub struct Lent<'a> {
-    pub head: Head,
-    pub operators: &'a [u16],
-    pub rides: &'a [u16],
-    pub presence: &'a [u16],
-}
-
 impl Lent<'_> {
     /// The reference's crowd cover.
-    fn cover(self, table: &Bands, guests: u16, marks: &mut [u16]) -> Counts {
+    fn crowd_cover(self, table: &Bands, guests: u16, marks: &mut [u16]) -> Counts {
         crowd_cover(self.head, self.operators, self.rides, self.presence, table, guests, marks)
     }
 
@@ -182,130 +166,11 @@ impl Lent<'_> {
     fn cover_looked_up(self, wrong: WrongBands, table: &Bands, guests: u16, marks: &mut [u16]) -> Counts {
         let limits = looked_up(wrong, table, guests);
         let mut left = marks.to_vec();
-        let counts = self.cover(&whole(limits), 0, &mut left);
+        let counts = self.crowd_cover(&whole(limits), 0, &mut left);
         if counts.code == 0 && limits.code != 0 {
-            return Counts { code: limits.code, operators: 0, rides: 0 };
+            return refused(limits.code);
         }
         marks.copy_from_slice(&left);
-        counts
-    }
-
-    /// Whoever is on or in and has its limit of neighbours that are.
-    fn by_degrees(self, alpha: u16, beta: u16) -> Vec<u16> {
-        let Lent { head, operators, rides, presence } = self;
-        let (pairs, operators, rides) = counting(head, operators, rides, presence);
-        let mut degrees = vec![0; head.nodes()];
-        for (operator, ride) in operators.iter().zip(&rides).take(pairs as usize) {
-            degrees[*operator as usize] += 1;
-            degrees[head.ride_node(*ride)] += 1;
-        }
-        let limit = |node: usize| if node < head.operators as usize { alpha } else { beta };
-        let is_in = |node: usize| presence[node] == PRESENT && limit(node) <= degrees[node];
-        (0..head.nodes()).map(is_in).map(u16::from).collect()
-    }
-
-    /// One sweep of the rides and one of the operators.
-    fn by_one_sweep(self, alpha: u16, beta: u16) -> Vec<u16> {
-        let Lent { head, operators, rides, presence } = self;
-        let here: Vec<u8> = presence[..head.nodes()].iter().map(|word| (*word == PRESENT) as u8).collect();
-        let limits = [vec![alpha; head.operators as usize], vec![beta; head.rides as usize]].concat();
-        let marks = swept_once(head, operators, rides, &here, &limits);
-        marks.iter().zip(here).map(|(mark, here)| mark * here as u16).collect()
-    }
-
-    /// The largest set inside the marks that came in.
-    fn inside_marks(self, alpha: u16, beta: u16, marks: &[u16]) -> Vec<u16> {
-        let Lent { head, operators, rides, presence } = self;
-        let mut marks: Vec<u16> = marks[..head.nodes()].iter().map(|mark| (*mark != 0) as u16).collect();
-        Reference.peel(head, operators, rides, presence, &mut marks, alpha, beta, u16::MAX);
-        marks
-    }
-
-    /// A crowd cover that refuses or reads otherwise, where the reference gives this number.
-    fn cover_otherwise(
-        self,
-        wrong: WrongCrowd,
-        number: u16,
-        table: &Bands,
-        guests: u16,
-        marks: &mut [u16],
-    ) -> Option<Counts> {
-        let Lent { head, operators, rides, presence } = self;
-        let (places, nodes) = (head.places(), head.nodes());
-        let refused = |code: u16| Counts { code, operators: 0, rides: 0 };
-        let lengthened =
-            |part: &[u16], needed: usize| [part, &vec![PRESENT; needed.saturating_sub(part.len())]].concat();
-        match (wrong, number) {
-            (WrongCrowd::BeforeBoard(first), 1..=5) if crowd_limits(table, guests).code == first => {
-                Some(refused(first))
-            }
-            (WrongCrowd::Twelve, 0 | 16..) if marks[..nodes].iter().any(|mark| *mark > 1) => Some(refused(12)),
-            (WrongCrowd::Short(OPERATORS), 3) => {
-                let operators = &lengthened(operators, places);
-                Some(Lent { operators, ..self }.cover(table, guests, marks))
-            }
-            (WrongCrowd::Short(RIDES), 3) => {
-                let rides = &lengthened(rides, places);
-                Some(Lent { rides, ..self }.cover(table, guests, marks))
-            }
-            (WrongCrowd::Short(_), 3) => {
-                let presence = &lengthened(presence, nodes);
-                Some(Lent { presence, ..self }.cover(table, guests, marks))
-            }
-            (WrongCrowd::ShortMarks, 3) => Some(self.cover(table, guests, &mut lengthened(marks, nodes))),
-            (WrongCrowd::Presence(reading), 0) => {
-                let presence = &reading.read(head, presence);
-                Some(Lent { presence, ..self }.cover(table, guests, marks))
-            }
-            (WrongCrowd::ZeroKeepsAbsent, 0) => {
-                // Whoever is off or out is on or in, with no pair.
-                let (pairs, operators, rides) = counting(head, operators, rides, presence);
-                let (head, all) = (Head { pairs, ..head }, vec![PRESENT; nodes]);
-                Some(Lent { head, operators: &operators, rides: &rides, presence: &all }.cover(table, guests, marks))
-            }
-            _ => None,
-        }
-    }
-
-    /// The marks of the nodes that a fault leaves for the limits of a band.
-    fn other_marks(self, wrong: WrongCrowd, limits: CrowdLimits, marks: &[u16]) -> Option<Vec<u16>> {
-        let CrowdLimits { alpha, beta, .. } = limits;
-        match wrong {
-            WrongCrowd::DegreesAlone => Some(self.by_degrees(alpha, beta)),
-            WrongCrowd::SweptOnce => Some(self.by_one_sweep(alpha, beta)),
-            WrongCrowd::MarksAsCame => Some(self.inside_marks(alpha, beta, marks)),
-            _ => None,
-        }
-    }
-
-    /// A crowd cover that goes wrong otherwise than in its look-up.
-    fn cover_spoiled(self, wrong: WrongCrowd, table: &Bands, guests: u16, marks: &mut [u16]) -> Counts {
-        let (head, nodes, before) = (self.head, self.head.nodes(), marks.to_vec());
-        let number = self.cover(table, guests, &mut before.clone()).code;
-        if let Some(counts) = self.cover_otherwise(wrong, number, table, guests, marks) {
-            return counts;
-        }
-        let mut counts = self.cover(table, guests, marks);
-        match (wrong, number) {
-            (WrongCrowd::MarksThoughRefused, 1..) => spoil(marks),
-            (WrongCrowd::CountsThoughRefused, 1..) => counts.operators = 1,
-            (_, 1..) => {}
-            (WrongCrowd::CountsExchanged, _) => {
-                (counts.operators, counts.rides) = (counts.rides, counts.operators);
-            }
-            (WrongCrowd::MarksPastNodes, _) => marks[nodes..].fill(0),
-            (WrongCrowd::WritesBeside, _) => write_beside(bytes(marks)),
-            (WrongCrowd::WritesPast, _) => write_byte(bytes(marks), size_of_val(marks) as isize),
-            (WrongCrowd::Writes(OPERATORS), _) => write_byte(bytes(self.operators), 0),
-            (WrongCrowd::Writes(RIDES), _) => write_byte(bytes(self.rides), 0),
-            (WrongCrowd::Writes(_), _) => write_byte(bytes(self.presence), 0),
-            _ => {
-                if let Some(others) = self.other_marks(wrong, crowd_limits(table, guests), &before) {
-                    marks[..nodes].copy_from_slice(&others);
-                    counts = counted(head, marks);
-                }
-            }
-        }
         counts
     }
 }
@@ -319,10 +184,20 @@ impl Faulty {
     }
 
     pub(super) fn cover_for(&self, lent: Lent, table: &Bands, guests: u16, marks: &mut [u16]) -> Counts {
+        let limits = crowd_limits(table, guests);
+        let number = lent.crowd_cover(table, guests, &mut marks.to_vec()).code;
         match self.0 {
             Fault::CrowdLookUp(wrong) => lent.cover_looked_up(wrong, table, guests, marks),
-            Fault::CrowdCover(wrong) => lent.cover_spoiled(wrong, table, guests, marks),
-            _ => lent.cover(table, guests, marks),
+            Fault::CrowdBeforeBoard(first) if (1..=5).contains(&number) && limits.code == first => refused(first),
+            Fault::CrowdCover(wrong) => {
+                let under = lent.limits(limits.alpha, |_| limits.beta);
+                lent.spoiled(wrong, &under, |lent, marks| lent.crowd_cover(table, guests, marks), marks)
+            }
+            Fault::CrowdUsesMinimums if number == 0 && lent.head.rides as usize <= self.1.len() => {
+                let Lent { head, operators, rides, presence } = lent;
+                own_cover(head, operators, rides, presence, &self.1, limits.alpha, limits.beta, marks)
+            }
+            _ => lent.crowd_cover(table, guests, marks),
         }
     }
 }

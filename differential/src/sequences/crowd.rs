@@ -1,7 +1,7 @@
 //! Look-ups in tables of bands, valid and other ones, and crowd covers.
 
-use super::{any_marks, asked, damage, lent, limits, resize, table, Size};
-use crate::compared::{Compared, Lent, MARKS_MOST};
+use super::{asked, cover_marks, damage, lent, limits, table, Size};
+use crate::compared::{Compared, Lent};
 use crate::numbers::Numbers;
 use differential::Library;
 use reference::crowd::{Band, Bands, BANDS_MOST, GUESTS_MOST};
@@ -168,16 +168,6 @@ fn guests(numbers: &mut Numbers, table: &Bands) -> u16 {
     }
 }
 
-/// Marks of any content for a board: as long as needed, a little longer, or of another length.
-fn marks(numbers: &mut Numbers, head: Head) -> Vec<u16> {
-    let mut marks = any_marks(numbers, head.nodes());
-    if numbers.one_in(10) {
-        resize(numbers, &mut marks, MARKS_MOST);
-    }
-    marks.truncate(MARKS_MOST);
-    marks
-}
-
 /// A board and some tables: a look-up and a crowd cover for each; some covers are given a damaged board.
 pub fn crowd<B: Library>(compared: &mut Compared<B>, numbers: &mut Numbers, size: Size) {
     let (n, m) = size.numbers(numbers);
@@ -190,9 +180,16 @@ pub fn crowd<B: Library>(compared: &mut Compared<B>, numbers: &mut Numbers, size
         if numbers.one_in(4) {
             damage(numbers, &mut lent);
         }
-        let mut marks = marks(numbers, lent.head);
+        let mut marks = cover_marks(numbers, lent.head);
         compared.crowd_cover(&lent, &table, guests(numbers, &table), &mut marks);
     }
+}
+
+/// A crowd cover for a table that is valid, on a board that isn't damaged.
+pub fn one<B: Library>(compared: &mut Compared<B>, numbers: &mut Numbers, board: &Lent) {
+    let table = valid(numbers, board.head);
+    let mut marks = cover_marks(numbers, board.head);
+    compared.crowd_cover(board, &table, guests(numbers, &table), &mut marks);
 }
 
 /// Crowd covers on a board whose index is its own, and a query for the limits of each.
@@ -200,13 +197,14 @@ pub fn queried<B: Library>(compared: &mut Compared<B>, numbers: &mut Numbers, bo
     for _ in 0..TABLES {
         let table = valid(numbers, board.head);
         let guests = guests(numbers, &table);
-        let mut covered = marks(numbers, board.head);
+        let mut covered = cover_marks(numbers, board.head);
         let mut queried = covered.clone();
         let counts = compared.crowd_cover(board, &table, guests, &mut covered);
         if counts.code == 0 {
             let limits = compared.crowd_limits(&table, guests);
             let answer = compared.query(board, limits.alpha, limits.beta, &mut queried);
-            compared.totals.same_as_queried((counts, &covered), (answer, &queried));
+            compared.totals.crowd.queried += 1;
+            compared.totals.same_as_queried("crowd cover", (counts, &covered), (answer, &queried));
         }
     }
 }
