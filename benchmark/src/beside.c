@@ -1,7 +1,10 @@
 /*
- * Two archives with the same interface in one program: build, peel and message of 200 operators and 60 rides, in turns on
- * equal boards. In each round both make the same calls, and the one that begins changes from round to round. Prints for each
- * call and number of pairs the microseconds of both, medians of the rounds. Ends where they leave different words.
+ * Two archives in one program: build, peel, covers and message of 200 operators and 60 rides, in turns on equal boards. In
+ * each round both make the same calls, and the one that begins changes from round to round. Prints for each call and number
+ * of pairs the microseconds of both, medians of the rounds. Ends where they leave different words.
+ *
+ * The other archive has the same interface. With OTHER_WITHOUT_MINIMUMS it has the one before minimums: its peel takes none,
+ * and its crowd cover for one band stands beside the own cover. Minimums are equal to beta, so that both find the same set.
  */
 #define _POSIX_C_SOURCE 199309L
 #include "board.h"
@@ -13,20 +16,20 @@
 extern uint16_t other_board_build(BoardHead, uint16_t *, size_t, uint16_t *, size_t, uint32_t, uint32_t *, size_t,
                                   uint16_t *, size_t, uint16_t *, size_t, uint32_t *, size_t, uint16_t *, size_t,
                                   uint16_t *, size_t);
-extern BoardPeeled other_board_peel(BoardHead, const uint16_t *, size_t, const uint16_t *, size_t, const uint16_t *,
-                                    size_t, uint16_t *, size_t, uint16_t, uint16_t, uint16_t);
+extern BoardCounts other_board_crowd_cover(BoardHead, const uint16_t *, size_t, const uint16_t *, size_t,
+                                           const uint16_t *, size_t, BoardBands, uint16_t, uint16_t *, size_t);
 extern BoardAnswer other_board_message(BoardHead *, uint16_t *, size_t, uint16_t *, size_t, uint32_t *, size_t,
                                        uint16_t *, size_t, uint16_t *, size_t, uint32_t *, size_t, uint16_t *, size_t,
                                        uint16_t *, size_t, BoardMessage);
 
 enum { OPERATORS = 200, RIDES = 60, PLACES = OPERATORS * RIDES, NODES = OPERATORS + RIDES, ROUNDS = 101, CALLS = 8 };
 
-/* A board, and the marks of a peel. */
+/* A board, and the minimums and marks of a peel or a cover. */
 typedef struct Lent {
     BoardHead head;
     uint16_t operators[PLACES], rides[PLACES], revisions[PLACES], index[RIDES * NODES];
     uint32_t stamps[PLACES], presence_stamps[NODES];
-    uint16_t presence_revisions[NODES], presence[NODES], marks[NODES];
+    uint16_t presence_revisions[NODES], presence[NODES], minimums[RIDES], marks[NODES];
 } Lent;
 
 static Lent lent[2];
@@ -67,15 +70,72 @@ static void message(int other, int place) {
     expect(answer.code == BOARD_DONE, "a message is refused");
 }
 
+static BoardBands one_band(void) {
+    return (BoardBands){.count = 1, .bands = {{.first = 0, .last = BOARD_GUESTS_MOST, .alpha = alpha, .beta = beta}}};
+}
+
+#ifdef OTHER_WITHOUT_MINIMUMS
+
+extern BoardPeeled other_board_peel(BoardHead, const uint16_t *, size_t, const uint16_t *, size_t, const uint16_t *,
+                                    size_t, uint16_t *, size_t, uint16_t, uint16_t, uint16_t);
+
+static BoardPeeled other_peel(Lent *b) {
+    return other_board_peel(b->head, b->operators, PLACES, b->rides, PLACES, b->presence, NODES, b->marks, NODES, alpha,
+                            beta, 65535);
+}
+
+static BoardCounts other_own_cover(Lent *b) {
+    return other_board_crowd_cover(b->head, b->operators, PLACES, b->rides, PLACES, b->presence, NODES, one_band(), 0,
+                                   b->marks, NODES);
+}
+
+#else
+
+extern BoardPeeled other_board_peel(BoardHead, const uint16_t *, size_t, const uint16_t *, size_t, const uint16_t *,
+                                    size_t, const uint16_t *, size_t, uint16_t *, size_t, uint16_t, uint16_t, uint16_t);
+extern BoardCounts other_board_own_cover(BoardHead, const uint16_t *, size_t, const uint16_t *, size_t,
+                                         const uint16_t *, size_t, const uint16_t *, size_t, uint16_t, uint16_t,
+                                         uint16_t *, size_t);
+
+static BoardPeeled other_peel(Lent *b) {
+    return other_board_peel(b->head, b->operators, PLACES, b->rides, PLACES, b->presence, NODES, b->minimums, RIDES,
+                            b->marks, NODES, alpha, beta, 65535);
+}
+
+static BoardCounts other_own_cover(Lent *b) {
+    return other_board_own_cover(b->head, b->operators, PLACES, b->rides, PLACES, b->presence, NODES, b->minimums, RIDES,
+                                 alpha, beta, b->marks, NODES);
+}
+
+#endif
+
 static void peel(int other, int place) {
     Lent *b = &lent[other];
     (void)place;
     for (int x = 0; x < NODES; x++) {
         b->marks[x] = 1;
     }
-    BoardPeeled peeled = (other ? other_board_peel : board_peel)(b->head, b->operators, PLACES, b->rides, PLACES,
-                                                                 b->presence, NODES, b->marks, NODES, alpha, beta, 65535);
+    BoardPeeled peeled = other ? other_peel(b)
+                               : board_peel(b->head, b->operators, PLACES, b->rides, PLACES, b->presence, NODES,
+                                            b->minimums, RIDES, b->marks, NODES, alpha, beta, 65535);
     expect(peeled.code == BOARD_DONE && peeled.settled == BOARD_SETTLED, "a peel doesn't settle");
+}
+
+static void own_cover(int other, int place) {
+    Lent *b = &lent[other];
+    (void)place;
+    BoardCounts counts = other ? other_own_cover(b)
+                               : board_own_cover(b->head, b->operators, PLACES, b->rides, PLACES, b->presence, NODES,
+                                                 b->minimums, RIDES, alpha, beta, b->marks, NODES);
+    expect(counts.code == BOARD_DONE, "an own cover is refused");
+}
+
+static void crowd_cover(int other, int place) {
+    Lent *b = &lent[other];
+    (void)place;
+    BoardCounts counts = (other ? other_board_crowd_cover : board_crowd_cover)(
+        b->head, b->operators, PLACES, b->rides, PLACES, b->presence, NODES, one_band(), 0, b->marks, NODES);
+    expect(counts.code == BOARD_DONE, "a crowd cover is refused");
 }
 
 static int compare(const void *a, const void *b) {
@@ -108,7 +168,7 @@ static void measure(const char *call, int pairs, void (*run)(int other, int plac
         }
     }
     expect(memcmp(&lent[0], &lent[1], sizeof *lent) == 0, "the archives leave different words");
-    printf("%s %d %.3f %.3f\n", call, pairs, median(times[0]), median(times[1]));
+    printf("%s\t%d\t%.3f\t%.3f\n", call, pairs, median(times[0]), median(times[1]));
 }
 
 /* A board with so many pairs at random; messages that in turn withdraw a listed pair and grant an unlisted one. */
@@ -159,6 +219,13 @@ static void choose_limits(int pairs) {
     beta = (uint16_t)(levels[RIDES / 2] + 1);
 }
 
+/* The minimum of each ride. */
+static void set_minimums(uint16_t minimum) {
+    for (int v = 0; v < RIDES; v++) {
+        lent[0].minimums[v] = lent[1].minimums[v] = minimum;
+    }
+}
+
 int main(void) {
     static const int sizes[] = {3000, 6000, 12000};
     for (size_t size = 0; size < sizeof sizes / sizeof *sizes; size++) {
@@ -166,6 +233,11 @@ int main(void) {
         measure("build", sizes[size], build);
         choose_limits(sizes[size]);
         measure("peel", sizes[size], peel);
+        measure("crowd cover", sizes[size], crowd_cover);
+        measure("own cover", sizes[size], own_cover);
+        set_minimums(beta);
+        measure("peel, minimums", sizes[size], peel);
+        measure("own cover, minimums", sizes[size], own_cover);
         measure("message", sizes[size], message);
     }
     return 0;

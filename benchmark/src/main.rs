@@ -8,6 +8,7 @@ mod kernel;
 mod lists;
 mod lookups;
 mod memory;
+mod minimums;
 mod previews;
 mod stack;
 mod tables;
@@ -193,9 +194,9 @@ fn queries(case: &Case, board: &Board, alpha: u16, beta: u16) -> ([Vec<f64>; 3],
     ([library, Vec::new(), same], asked)
 }
 
-/// The times of a peel from all ones, with all steps allowed. It leaves the marks of a query.
+/// The times of a peel from all ones, with all steps allowed and without minimums. It leaves the marks of a query.
 fn peels(case: &Case, board: &Board, tables: &Tables, (alpha, beta): (u16, u16)) -> [Vec<f64>; 3] {
-    let limits = case.limit_list((alpha, beta));
+    let (limits, none) = (case.limit_list((alpha, beta)), vec![0; case.rides as usize]);
     let (mut marks, mut same) = (Vec::new(), Vec::new());
     let (mut peeled, mut listed, mut again) = (None, None, None);
     let (n, presence) = (case.operators as usize, board.words().presence);
@@ -204,7 +205,7 @@ fn peels(case: &Case, board: &Board, tables: &Tables, (alpha, beta): (u16, u16))
         &mut [
             &mut || {
                 marks = vec![1; case.nodes()];
-                peeled = Some(board.peel(&mut marks, alpha, beta, u16::MAX).unwrap());
+                peeled = Some(board.peel(&none, &mut marks, alpha, beta, u16::MAX).unwrap());
             },
             &mut || listed = Some(lists::peel(n, black_box(presence), black_box(&case.pairs), black_box(&limits))),
             &mut || {
@@ -301,7 +302,7 @@ fn run(case: &Case) -> Vec<Line> {
     assert!(asked.iter().all(|mark| *mark == 0));
     lines.push(case.line("query", times));
 
-    // Peels, covers under limits and crowd covers.
+    // Peels, covers under limits, crowd covers and own covers.
     for (call, limits) in PEELS.into_iter().zip([half(case, &board), (alpha, beta)]) {
         case.tell(call);
         lines.push(case.line(call, peels(case, &board, &tables, limits)));
@@ -376,7 +377,7 @@ fn print_bursts() {
 /// By call, in the order in which each first comes; lines of one call stay in their order.
 fn sort(lines: &mut [Line]) {
     let first: Vec<&str> = lines.iter().map(|line| line.call).collect();
-    let words = ["build", "query", "peel", "cover", "crowd cover", "message"];
+    let words = ["build", "query", "peel", "cover", "crowd cover", "own cover", "message"];
     lines.sort_by_key(|line| {
         let word = words.iter().position(|word| line.call.starts_with(word));
         (word, first.iter().position(|call| *call == line.call))
@@ -389,7 +390,7 @@ fn print_lines(lines: &[Line]) {
     for line in lines {
         let digits = match line.call {
             call if call.starts_with("query") => 3,
-            call if call.starts_with("cover") || call.starts_with("crowd cover") => 2,
+            call if call.contains("cover") => 2,
             _ => 1,
         };
         let [lists, same] = [1, 2].map(|program| match line.has(program) {
@@ -450,17 +451,20 @@ fn print_goal<'a>(lines: impl IntoIterator<Item = &'a Line>, call: &str, (agains
 /// The lines of a peel under limits that drop about half, and under those that drop everybody.
 const PEELS: [&str; 2] = ["peel", "peel, everybody dropped"];
 
-/// The table of one program beside another on each board, under limits that drop about half and under those that drop
-/// everybody. The ratios of their times, each with its place in the table.
-fn print_beside(
+/// The table of one or two programs beside the last on each board, under limits that drop about half and under those that
+/// drop everybody. The ratios of their times to the last one's, each with its place in the table.
+fn print_beside<const N: usize>(
     cases: &[Case],
     what: &str,
-    [one, other]: [&str; 2],
+    names: [&str; N],
     digits: usize,
-    times: impl Fn(&Case, &Board, (u16, u16)) -> [Vec<f64>; 2],
+    times: impl Fn(&Case, &Board, (u16, u16)) -> [Vec<f64>; N],
 ) -> Vec<(String, f64)> {
-    println!("| Limits | Board | Pairs | {one} µs | {other} µs | {one} / {other} |");
-    println!("|---|---|---:|---:|---:|---:|");
+    let (last, others) = names.split_last().unwrap();
+    let columns = names.map(|name| format!(" {name} µs |")).concat();
+    let of_ratios: String = others.iter().map(|name| format!(" {name} / {last} |")).collect();
+    println!("| Limits | Board | Pairs |{columns}{of_ratios}");
+    println!("|---|---|---:|{}", "---:|".repeat(2 * N - 1));
     let mut ratios = Vec::new();
     for case in cases {
         case.tell(what);
@@ -469,10 +473,14 @@ fn print_beside(
         let board = Board::build(memory.parts(), n, m, &case.pairs, START).unwrap();
         for (name, limits) in [("about half", half(case, &board)), ("everybody", limits(case, &board))] {
             let times = times(case, &board, limits);
-            let ratio = ratio(&times[0], &times[1]);
-            let [one, other] = times.map(median);
-            println!("| {name} | {n} × {m} | {pairs} | {one:.digits$} | {other:.digits$} | {ratio:.2} |");
-            ratios.push((format!("{n} × {m}, {pairs} pairs, {name}"), ratio));
+            let of_programs: Vec<f64> = times[..N - 1].iter().map(|of_one| ratio(of_one, &times[N - 1])).collect();
+            let columns = times.map(|times| format!(" {:.digits$} |", median(times))).concat();
+            let of_ratios: String = of_programs.iter().map(|ratio| format!(" {ratio:.2} |")).collect();
+            println!("| {name} | {n} × {m} | {pairs} |{columns}{of_ratios}");
+            for (program, ratio) in others.iter().zip(of_programs) {
+                let program = if N == 2 { String::new() } else { format!(", {program}") };
+                ratios.push((format!("{n} × {m}, {pairs} pairs, {name}{program}"), ratio));
+            }
         }
     }
     ratios
@@ -482,6 +490,7 @@ fn print_beside(
 fn own_peels(case: &Case, board: &Board, (alpha, beta): (u16, u16)) -> [Vec<f64>; 2] {
     let mut tables = Tables::new(case.operators, case.rides, &case.pairs);
     assert!(tables.build(START));
+    let none = vec![0; case.rides as usize];
     let (mut marks, mut same) = (Vec::new(), Vec::new());
     let (mut peeled, mut again) = (None, None);
     let times = measure(
@@ -489,7 +498,7 @@ fn own_peels(case: &Case, board: &Board, (alpha, beta): (u16, u16)) -> [Vec<f64>
         &mut [
             &mut || {
                 marks = vec![1; case.nodes()];
-                peeled = Some(board.peel(&mut marks, alpha, beta, u16::MAX).unwrap());
+                peeled = Some(board.peel(&none, &mut marks, alpha, beta, u16::MAX).unwrap());
             },
             &mut || {
                 same = vec![1; case.nodes()];
@@ -535,7 +544,7 @@ fn main() {
         print_goal(&lines, call, LISTS, 0.5);
         print_goal(&lines, call, TABLES, 1.1);
     }
-    for [pairs, tables, _] in [covers::HALF, covers::EVERYBODY] {
+    for [pairs, tables, ..] in [covers::HALF, covers::EVERYBODY] {
         print_goal(&lines, pairs, LISTS, 0.35);
         print_goal(&lines, tables, LISTS, 0.1);
     }
@@ -544,6 +553,7 @@ fn main() {
     previews::print(&cases);
     crowds::print(&cases);
     lookups::print();
+    minimums::print(&cases);
     println!("Growth, with half of all pairs:\n");
     let mut lines = Vec::new();
     for (operators, rides) in [(50, 15), (100, 30), (200, 60)] {

@@ -66,8 +66,8 @@ fn leaving_and_coming(stamp: u32) -> [Message; 4] {
 }
 
 /// The deepest stack of each call, over boards with few and many pairs.
-fn deepest() -> [usize; 8] {
-    let mut deepest = [0; 8];
+fn deepest() -> [usize; 9] {
+    let mut deepest = [0; 9];
     let (mut memory, mut other) = (Box::new(Memory::new()), Box::new(Memory::new()));
     let mut spare = Box::new(Memory::new());
     for pairs in [1, 3000, 6000, 12000] {
@@ -81,8 +81,12 @@ fn deepest() -> [usize; 8] {
         let mut board = Board::build(memory.parts(), 200, 60, &case.pairs, START).unwrap();
         let (alpha, beta) = limits(&case, &board);
         let (mut marks, mut answers) = ([1; 260], [1; 16]);
-        let peeled = stack::deepest(|| assert!(board.peel(&mut marks, alpha, beta, u16::MAX).is_ok()));
+        let minimums = [beta; 60];
+        let peeled = stack::deepest(|| assert!(board.peel(&minimums, &mut marks, alpha, beta, u16::MAX).is_ok()));
         let limits = [(alpha, beta), (0, 0), (61, 0)];
+        let own =
+            |(alpha, beta)| stack::deepest(|| assert!(board.own_cover(&minimums, alpha, beta, &mut marks).is_ok()));
+        let owned = limits.map(own).into_iter().max().unwrap();
         let query = |(alpha, beta)| stack::deepest(|| assert!(board.query(alpha, beta, &mut marks).is_ok()));
         let queried = limits.map(query).into_iter().max().unwrap();
         let bands = limits.map(crowds::bands);
@@ -100,7 +104,7 @@ fn deepest() -> [usize; 8] {
         let taken = sent.iter().map(|&one| stack::deepest(|| assert!(board.message(one).is_ok()))).max().unwrap();
         let listed = stack::deepest(|| assert!(board.messages(&list, &mut answers).is_ok()));
         assert!(answers == [0; 16]);
-        let calls = [built, queried, peeled, looked_up, covered, taken, listed, previewed];
+        let calls = [built, queried, peeled, owned, looked_up, covered, taken, listed, previewed];
         for (most, now) in deepest.iter_mut().zip(calls) {
             *most = now.max(*most);
         }
@@ -175,12 +179,12 @@ fn board_bytes(lengths: &[usize]) -> usize {
 }
 
 /// The bytes that each call must be lent, and what they are.
-fn lent() -> [(String, &'static str); 8] {
+fn lent() -> [(String, &'static str); 9] {
     let case = Case::new(200, 60, 6000, 12);
     let one = case.messages[0];
     let (mut head, mut spare_head) = (Head { operators: 200, rides: 60, pairs: 6000 }, Head::default());
     let (mut long, mut spare) = (Long::new(), Long::new());
-    let (mut marks, mut answers) = (vec![0; MOST], vec![0; MOST]);
+    let (minimums, mut marks, mut answers) = (vec![0; MOST], vec![0; MOST], vec![0; MOST]);
     for (place, pair) in case.pairs.iter().enumerate() {
         (long.operators[place], long.rides[place]) = *pair;
     }
@@ -188,9 +192,13 @@ fn lent() -> [(String, &'static str); 8] {
     let queried = fewest(|[i, p, k]| {
         board::query(head, &long.index[..i], &long.presence[..p], 1, 1, &mut marks[..k]).map(|_| ())
     });
-    let peeled = fewest(|[o, r, p, k]| {
+    let peeled = fewest(|[o, r, p, m, k]| {
         let (operators, rides, presence) = (&long.operators[..o], &long.rides[..r], &long.presence[..p]);
-        board::peel(head, operators, rides, presence, &mut marks[..k], 1, 1, 0).map(|_| ())
+        board::peel(head, operators, rides, presence, &minimums[..m], &mut marks[..k], 1, 1, 0).map(|_| ())
+    });
+    let owned = fewest(|[o, r, p, m, k]| {
+        let (operators, rides, presence) = (&long.operators[..o], &long.rides[..r], &long.presence[..p]);
+        board::own_cover(head, operators, rides, presence, &minimums[..m], 1, 1, &mut marks[..k]).map(|_| ())
     });
     let bands = crowds::bands((1, 1));
     let covered = fewest(|[o, r, p, k]| {
@@ -215,7 +223,8 @@ fn lent() -> [(String, &'static str); 8] {
     [
         (format!("{}", board_bytes(&built)), "pair arrays, stamps, revisions, index, presence parts"),
         (format!("{}", words(&queried)), "index, presence words, marks"),
-        (format!("{}", words(&peeled)), "pair arrays, presence words, marks"),
+        (format!("{}", words(&peeled)), "pair arrays, presence words, minimums, marks"),
+        (format!("{}", words(&owned)), "pair arrays, presence words, minimums, marks"),
         ("0".to_string(), "nothing"),
         (format!("{}", words(&covered)), "pair arrays, presence words, marks"),
         (
@@ -238,7 +247,7 @@ const STACK_MOST: usize = 32 * 1024;
 pub fn print() {
     println!("| Call | Deepest stack, bytes | Lent, bytes | What is lent |");
     println!("|---|---:|---:|---|");
-    let names = ["build", "query", "peel", "look-up", "crowd cover", "message", "message list", "preview"];
+    let names = ["build", "query", "peel", "own cover", "look-up", "crowd cover", "message", "message list", "preview"];
     let deepest = deepest();
     for ((name, deep), (bytes, what)) in names.iter().zip(deepest).zip(lent()) {
         println!("| {name} | {deep} | {bytes} | {what} |");
