@@ -90,7 +90,7 @@ module _ (h : Head) (es : List Message) where
           subst (λ (g : Graph). IsCoverUnder g here limit (board-own-cover (board .head) (lent .part Operators) (lent .part Rides) (lent .part Presence) minimums α β marks)) (graph-extend h (says h es) behind)
           (cover-start (board-graph lent) (present (lent .part Presence)) here limit _ (present-extend h (says h es) behind) c)
 
-      written-same : (more‴ : List ℕ) → MinimumsAll h minimums 0 → board-query (board .head) (board .part Index ++ more‴) (board .part Presence ++ more″) α β marks ≡ board-own-cover (board .head) (board .part Operators ++ more) (board .part Rides ++ more′) (board .part Presence ++ more″) minimums α β marks
+      written-same : (more‴ : List ℕ) → MinimumsAll (h .rides) minimums 0 → board-query (board .head) (board .part Index ++ more‴) (board .part Presence ++ more″) α β marks ≡ board-own-cover (board .head) (board .part Operators ++ more) (board .part Rides ++ more′) (board .part Presence ++ more″) minimums α β marks
       unfolding written
       written-same more‴ zeros =
           let behind : Parts = parts more more′ [] [] [] [] [] more″ in
@@ -157,11 +157,11 @@ demand-2 =
       zero-is-no-limit = zero-is-no-limit;
       presence-laws = presence-laws;
       query-is-core = query-is-core;
+      own-limits-laws = own-limits-laws;
       index-then-query = index-then-query;
       build-then-query = build-then-query;
       preview-then-query = preview-then-query;
       peel-is-largest = peel-is-largest;
-      own-limits-laws = own-limits-laws;
       peel-is-cover = peel-is-cover;
       own-cover-laws = own-cover-laws;
       crowd-limits-laws = crowd-limits-laws;

@@ -64,7 +64,7 @@ CallsThenSame =
     build-refusal b start ≡ 0 →
     b .head .rides ≤ length minimums →
     mark-places (b .head) ≤ length marks →
-    MinimumsAll (b .head) minimums 0 →
+    MinimumsAll (b .head .rides) minimums 0 →
     let left = run (built-board b start) calls in
     board-query (left .head) (left .part Index ++ more‴) (left .part Presence ++ more″) α β marks
     ≡ board-own-cover (left .head) (left .part Operators ++ more) (left .part Rides ++ more′) (left .part Presence ++ more″) minimums α β marks
@@ -82,7 +82,7 @@ CallsThenCrowdCover =
 
 -- Demand 2, all of it
 pub record Demand2 : Type 0 where
-  -- of the definitions: cover, level and index, peel, and what a query marks
+  -- of the definitions: cover, level and index, peel, what a query marks, and minimums
   pub cover-laws : CoverLaws
   pub cover-under-laws : CoverUnderLaws
   pub level-laws : LevelLaws
@@ -90,12 +90,12 @@ pub record Demand2 : Type 0 where
   pub zero-is-no-limit : (h : Head) (index presence : List ℕ) → ZeroIsNoLimit h index presence
   pub presence-laws : PresenceLaws
   pub query-is-core : QueryIsCore
+  pub own-limits-laws : (minimums : List ℕ) (α β : ℕ) → OwnLimitsLaws minimums α β
   -- of the calls
   pub index-then-query : IndexThenQuery
   pub build-then-query : BuildThenQuery
   pub preview-then-query : PreviewThenQuery
   pub peel-is-largest : PeelIsLargest
-  pub own-limits-laws : (operators : ℕ) (minimums : List ℕ) (α β : ℕ) → OwnLimitsLaws operators minimums α β
   pub peel-is-cover : (h : Head) (operators rides presence minimums marks : List ℕ) (α β allowed : ℕ) →
       peel-refusal h operators rides presence minimums marks ≡ 0 → AllOnes (counting-graph h operators rides presence) marks →
       PeelIsCover h operators rides presence minimums marks α β allowed

@@ -1,5 +1,6 @@
 -- Cover (α, β) is the (α, β)-core of Definition 2.1, and covers nest. Assumes nothing.
 use mathlib.Core.Path.{_≡_, refl, sym, ap, _∙_, subst}
+use mathlib.Core.Logic.{_↔_}
 use mathlib.Core.Bool.{Bool, _&&_}
 use mathlib.Core.List.{List}
 use Prim.Native.Nat.{ℕ, _+_, _-_, _≤_, _<_}
@@ -10,7 +11,7 @@ use borrow.Author.Tests.{lt-ltb, le-ltb, eq-eqb, ne-eqb}
 use lib.ListN.{length, getD, replicate, length-replicate}
 use lib.Seq.{ext-getD}
 use Rattle.model.specs.Count.{bit}
-use Rattle.model.specs.Graph.{Graph, nodes, degree, everybody, Inside, Meets, Largest, limits, ride-limit, own-limits, Core, marked, settled, peel, cover-under, cover}
+use Rattle.model.specs.Graph.{Graph, nodes, degree, everybody, Inside, Meets, Largest, limits, ride-limit, own-limits, CoreInside, Core, marked, settled, peel, cover-under, cover}
 use Rattle.model.specs.Demand.{AllOnes, CoverLaws, CoverUnderLaws}
 use Rattle.model.proofs.Count.{bit-of, and-right, count-le, count-witness}
 use Rattle.model.proofs.Peel.{degree-operator, degree-ride, all-ones, all-marked, peel-least, length-peel, peel-laws}
@@ -132,7 +133,7 @@ module _ (g : Graph) (limit : ℕ → ℕ) where
       bit-of (getD s x 0) (bits x k) ∙ ap bit (peel-laws .only g limit everybody (marked s) (marked c) l under-largest x k) ∙ sym (bit-of (getD c x 0) (under-bits x k)))
 
 -- a largest set under limits is one under limits that are the same for every node
-pub largest-under : (g : Graph) (limit limit′ : ℕ → ℕ) → ((x : ℕ) → x < nodes g → limit x ≡ limit′ x) → (start s : ℕ → Bool) → Largest g limit start s → Largest g limit′ start s
+largest-under : (g : Graph) (limit limit′ : ℕ → ℕ) → ((x : ℕ) → x < nodes g → limit x ≡ limit′ x) → (start s : ℕ → Bool) → Largest g limit start s → Largest g limit′ start s
 largest-under g limit limit′ same start s l =
     record {
       inside = l .inside;
@@ -140,7 +141,15 @@ largest-under g limit limit′ same start s l =
       largest = λ r i m. l .largest r i (λ x h t. omega (arith, m x h t, same x h));
     }
 
--- so that limits past the nodes don't matter
+-- where every ride has the limit b, the largest set with minimums is that of (α, b)
+pub own-core : (g : Graph) (minimums : List ℕ) (α β b : ℕ) → ((v : ℕ) → v < g .rides → ride-limit minimums β v ≡ b) → (here s : ℕ → Bool) → Largest g (own-limits (g .operators) minimums α β) here s ↔ CoreInside g here α b s
+own-core g minimums α β b one here s =
+    let same = own-one (g .operators) (g .rides) minimums α β b one in
+    let own : ℕ → ℕ = own-limits (g .operators) minimums α β in
+    let plain : ℕ → ℕ = limits (g .operators) α b in
+    (largest-under g own plain same here s, largest-under g plain own (λ x l. sym (same x l)) here s)
+
+-- limits past the nodes don't matter
 pub under-same : (g : Graph) (limit limit′ : ℕ → ℕ) → ((x : ℕ) → x < nodes g → limit x ≡ limit′ x) → cover-under g limit ≡ cover-under g limit′
 under-same g limit limit′ same =
     under-only g limit′ (cover-under g limit) (under-length g limit) (under-bits g limit)

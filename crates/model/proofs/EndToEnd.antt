@@ -19,7 +19,7 @@ use Rattle.model.specs.Refusal.{refused-1, refused-2, refused-3, refused
 use Rattle.model.specs.Calls.{start-contents, built, board-build, level-read, query-marks, counts, shown, board-query, peel-limits, peeled, board-peel}
 use Rattle.model.specs.Demand.{AllOnes, IsCoverUnder, IsCore, IndexThenQuery, BuildThenQuery, IsPeeled, PeelIsLargest, IsPeeledCover, IsPeeledCore, PeelIsCover}
 use Rattle.model.proofs.Count.{test-true, test-false, bit-test, bit-zero, and-true, or-cases, count-le, count-ext, some-witness, length-values, getD-values, values-ext, length-rows}
-use Rattle.model.proofs.Cover.{ride-none, ride-own, own-one, largest-under}
+use Rattle.model.proofs.Cover.{ride-none, ride-own, own-core}
 use Rattle.model.proofs.Peel.{all-marked, peel-laws}
 use Rattle.model.proofs.Level.{index-same}
 use Rattle.model.proofs.Presence.{largest-inside, all-count, core-all, largest-start}
@@ -266,7 +266,7 @@ module _ (h : Head) (operators rides presence minimums marks : List ℕ) (α β 
       let c = all-peeled ones in
       record {
         code = c .code;
-        largest = λ e. largest-under pairs plain (limits (h .operators) α b) (own-one (h .operators) (h .rides) minimums α β b one) (present presence) (marked (board-peel h operators rides presence minimums marks α β allowed .marks)) (c .largest e);
+        largest = λ e. own-core pairs minimums α β b one (present presence) (marked (board-peel h operators rides presence minimums marks α β allowed .marks)) .0 (c .largest e);
         steps = c .steps;
         settles = c .settles;
       }

@@ -1,5 +1,6 @@
 -- The cover with minimums: its number, that it is the largest set under its limits, and what it is where all minimums are one. Assumes nothing.
 use mathlib.Core.Path.{_≡_, refl, sym, ap, _∙_}
+use mathlib.Core.Logic.{_↔_}
 use mathlib.Core.Bool.{Bool, true, false, _||_}
 use mathlib.Core.List.{List, [], _++_}
 use Prim.Native.Nat.{ℕ, suc, _+_, _-_, _<_}
@@ -8,12 +9,12 @@ use lib.Dec.{ltb, eqb}
 use borrow.Author.Tests.{le-ltb}
 use lib.ListN.{length, getD, length-append, List·getD-append}
 use Rattle.model.specs.declared.Head.{Head}
-use Rattle.model.specs.Graph.{Graph, limits, ride-limit, own-limits, marked, present, index-of}
+use Rattle.model.specs.Graph.{Graph, Largest, CoreInside, limits, ride-limit, own-limits, marked, present, index-of}
 use Rattle.model.specs.Layout.{pair-places, mark-places, listed, counting-graph}
 use Rattle.model.specs.Refusal.{refused-3, first-number, table-cases, cover-short, peel-refusal, own-cover-refusal}
 use Rattle.model.specs.Calls.{QueryOutcome, shown, not-shown, board-query, board-peel, present-cover, board-own-cover}
 use Rattle.model.specs.Demand.{AllOnes, IsCoverUnder, IsCore, OwnLimitsLaws, MinimumsAll, OwnCoverLaws}
-use Rattle.model.proofs.Cover.{ride-none, ride-own, own-operator, own-ride, own-same, own-one, largest-under}
+use Rattle.model.proofs.Cover.{ride-none, ride-own, own-operator, own-ride, own-same, own-one, own-core}
 use Rattle.model.proofs.Peel.{peel-laws}
 use Rattle.model.proofs.Refusal.{peel-lent}
 use Rattle.model.proofs.EndToEnd.{query-shown, peel-is-cover}
@@ -21,16 +22,18 @@ use Rattle.model.proofs.PresentCover.{present-cover-same, query-cover, 
 
 -- ---- the limits
 
-pub own-limits-laws : (n : ℕ) (minimums : List ℕ) (α β : ℕ) → OwnLimitsLaws n minimums α β
-own-limits-laws n minimums α β =
+at-ride : (n : ℕ) (minimums : List ℕ) (α β v : ℕ) → own-limits n minimums α β (n + v) ≡ ride-limit minimums β v
+at-ride n minimums α β v = own-ride n minimums α β (n + v) (omega arith) ∙ ap (ride-limit minimums β) (let e : n + v - n ≡ v = omega arith in e)
+
+pub own-limits-laws : (minimums : List ℕ) (α β : ℕ) → OwnLimitsLaws minimums α β
+own-limits-laws minimums α β =
     record {
-      operator = own-operator n minimums α β;
-      own = λ v e. at-ride v ∙ ride-own minimums β v (getD minimums v 0) (omega arith) refl;
-      none = λ v e. at-ride v ∙ ride-none minimums β v e;
+      operator = λ n. own-operator n minimums α β;
+      own = λ n v e. at-ride n minimums α β v ∙ ride-own minimums β v (getD minimums v 0) (omega arith) refl;
+      none = λ n v e. at-ride n minimums α β v ∙ ride-none minimums β v e;
+      all-equal = λ g m l all. own-core g minimums α β m (λ v k. ride-own minimums β v m l (all v k));
+      all-zero = λ g all. own-core g minimums α β β (λ v k. ride-none minimums β v (all v k));
     }
-  where
-    at-ride : (v : ℕ) → own-limits n minimums α β (n + v) ≡ ride-limit minimums β v
-    at-ride v = own-ride n minimums α β (n + v) (omega arith) ∙ ap (ride-limit minimums β) (let e : n + v - n ≡ v = omega arith in e)
 
 -- ---- the call
 
@@ -68,19 +71,14 @@ module _ (h : Head) (operators rides presence minimums : List ℕ) (α β : ℕ)
   one-core : (b : ℕ) → ((v : ℕ) → v < h .rides → ride-limit minimums β v ≡ b) → outcome .answer .code ≡ 0 → IsCore g (present presence) α b outcome
   one-core b one e =
       let c = under e in
-      record {
-        code = c .code;
-        largest = largest-under g limit (limits (h .operators) α b) (own-one (h .operators) (h .rides) minimums α β b one) (present presence) (marked (outcome .marks)) (c .largest);
-        operators = c .operators;
-        rides = c .rides;
-      }
+      record { code = c .code; largest = own-core g minimums α β b one (present presence) (marked (outcome .marks)) .0 (c .largest); operators = c .operators; rides = c .rides }
 
   peeled-same : (start : List ℕ) (allowed : ℕ) → outcome .answer .code ≡ 0 → peel-refusal h operators rides presence minimums start ≡ 0 → AllOnes g start → board-peel h operators rides presence minimums start α β allowed .answer .settled ≡ 1 → (x : ℕ) → x < mark-places h → marked (board-peel h operators rides presence minimums start α β allowed .marks) x ≡ marked (outcome .marks) x
   peeled-same start allowed e none ones done =
       let p = peel-is-cover h operators rides presence minimums start α β allowed none ones .own in
       peel-laws .only g limit (present presence) (marked (board-peel h operators rides presence minimums start α β allowed .marks)) (marked (outcome .marks)) (p .largest done) (under e .largest)
 
-  queried-same : (more : List ℕ) → MinimumsAll h minimums 0 → outcome .answer .code ≡ 0 → board-query h (index-of g ++ more) presence α β marks ≡ outcome
+  queried-same : (more : List ℕ) → MinimumsAll (h .rides) minimums 0 → outcome .answer .code ≡ 0 → board-query h (index-of g ++ more) presence α β marks ≡ outcome
   unfolding own-cover-refusal
   queried-same more zeros e =
       let lent = peel-lent h operators rides presence minimums marks [] (number-of e) .0 in

@@ -278,17 +278,22 @@ pub record IsPeeledCover (g : Graph) (here : ℕ → Bool) (limit : ℕ → ℕ)
 abbrev pub IsPeeledCore : Graph → (ℕ → Bool) → ℕ → ℕ → ℕ → PeelOutcome → Type 0
 IsPeeledCore g here α β allowed o = IsPeeledCover g here (limits (g .operators) α β) allowed o
 
--- Document 02, 2.7: the limits of operators and of rides, node operators + v being ride v, for any minimums
-pub record OwnLimitsLaws (operators : ℕ) (minimums : List ℕ) (α β : ℕ) : Type 0 where
-  -- α for every operator
-  pub operator : (u : ℕ) → u < operators → own-limits operators minimums α β u ≡ α
-  -- a ride's own minimum where there is one, also where it is smaller than β; β elsewhere
-  pub own : (v : ℕ) → getD minimums v 0 ≢ 0 → own-limits operators minimums α β (operators + v) ≡ getD minimums v 0
-  pub none : (v : ℕ) → getD minimums v 0 ≡ 0 → own-limits operators minimums α β (operators + v) ≡ β
+-- the minimums of so many rides are all m
+abbrev pub MinimumsAll : ℕ → List ℕ → ℕ → Type 0
+MinimumsAll rides minimums m = (v : ℕ) → v < rides → getD minimums v 0 ≡ m
 
--- all minimums are m
-abbrev pub MinimumsAll : Head → List ℕ → ℕ → Type 0
-MinimumsAll h minimums m = (v : ℕ) → v < h .rides → getD minimums v 0 ≡ m
+-- Document 02, 2.7, of the limits with any minimums; ride v is node operators + v
+pub record OwnLimitsLaws (minimums : List ℕ) (α β : ℕ) : Type 0 where
+  -- α for every operator
+  pub operator : (operators u : ℕ) → u < operators → own-limits operators minimums α β u ≡ α
+  -- a ride's own minimum where there is one, also where it is smaller than β; β elsewhere
+  pub own : (operators v : ℕ) → getD minimums v 0 ≢ 0 → own-limits operators minimums α β (operators + v) ≡ getD minimums v 0
+  pub none : (operators v : ℕ) → getD minimums v 0 ≡ 0 → own-limits operators minimums α β (operators + v) ≡ β
+  -- where they are all equal to one m above 0, the largest set under them is that of (α, m); where they are all 0, that of (α, β)
+  pub all-equal : (g : Graph) (m : ℕ) → 1 ≤ m → MinimumsAll (g .rides) minimums m → (here s : ℕ → Bool) →
+      Largest g (own-limits (g .operators) minimums α β) here s ↔ CoreInside g here α m s
+  pub all-zero : (g : Graph) → MinimumsAll (g .rides) minimums 0 → (here s : ℕ → Bool) →
+      Largest g (own-limits (g .operators) minimums α β) here s ↔ CoreInside g here α β s
 
 -- "from all ones this is the cover", of any peel that isn't refused
 pub record PeelIsCover (h : Head) (operators rides presence minimums marks : List ℕ) (α β allowed : ℕ) : Type 0 where
@@ -296,10 +301,10 @@ pub record PeelIsCover (h : Head) (operators rides presence minimums marks : Lis
   pub own : IsPeeledCover (counting-graph h operators rides presence) (present presence) (own-limits (h .operators) minimums α β) allowed
       (board-peel h operators rides presence minimums marks α β allowed)
   -- minimums all equal to one m above 0 give the cover (α, m), all 0 the cover (α, β)
-  pub all-equal : (m : ℕ) → 1 ≤ m → MinimumsAll h minimums m →
+  pub all-equal : (m : ℕ) → 1 ≤ m → MinimumsAll (h .rides) minimums m →
       IsPeeledCore (counting-graph h operators rides presence) (present presence) α m allowed
       (board-peel h operators rides presence minimums marks α β allowed)
-  pub all-zero : MinimumsAll h minimums 0 →
+  pub all-zero : MinimumsAll (h .rides) minimums 0 →
       IsPeeledCore (counting-graph h operators rides presence) (present presence) α β allowed
       (board-peel h operators rides presence minimums marks α β allowed)
 
@@ -317,12 +322,12 @@ pub record OwnCoverLaws (h : Head) (operators rides presence minimums : List ℕ
       board-peel h operators rides presence minimums start α β allowed .answer .settled ≡ 1 → (x : ℕ) → x < mark-places h →
       marked (board-peel h operators rides presence minimums start α β allowed .marks) x ≡ marked (board-own-cover h operators rides presence minimums α β marks .marks) x
   -- minimums all equal to one m above 0 give the cover (α, m), all 0 the cover (α, β)
-  pub all-equal : (m : ℕ) → 1 ≤ m → MinimumsAll h minimums m → board-own-cover h operators rides presence minimums α β marks .answer .code ≡ 0 →
+  pub all-equal : (m : ℕ) → 1 ≤ m → MinimumsAll (h .rides) minimums m → board-own-cover h operators rides presence minimums α β marks .answer .code ≡ 0 →
       IsCore (counting-graph h operators rides presence) (present presence) α m (board-own-cover h operators rides presence minimums α β marks)
-  pub all-zero : MinimumsAll h minimums 0 → board-own-cover h operators rides presence minimums α β marks .answer .code ≡ 0 →
+  pub all-zero : MinimumsAll (h .rides) minimums 0 → board-own-cover h operators rides presence minimums α β marks .answer .code ≡ 0 →
       IsCore (counting-graph h operators rides presence) (present presence) α β (board-own-cover h operators rides presence minimums α β marks)
   -- with all minimums 0 a query for these limits on an index of the same pairs gives the same
-  pub as-query : (more : List ℕ) → MinimumsAll h minimums 0 → board-own-cover h operators rides presence minimums α β marks .answer .code ≡ 0 →
+  pub as-query : (more : List ℕ) → MinimumsAll (h .rides) minimums 0 → board-own-cover h operators rides presence minimums α β marks .answer .code ≡ 0 →
       board-query h (index-of (counting-graph h operators rides presence) ++ more) presence α β marks ≡ board-own-cover h operators rides presence minimums α β marks
   -- refused, it leaves the marks, and its counts are 0
   pub kept : board-own-cover h operators rides presence minimums α β marks .answer .code ≢ 0 →
