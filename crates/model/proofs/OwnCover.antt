@@ -1,6 +1,5 @@
 -- The cover with minimums: its number, that it is the largest set under its limits, and what it is where all minimums are one. Assumes nothing.
 use mathlib.Core.Path.{_≡_, refl, sym, ap, _∙_}
-use mathlib.Core.Logic.{_↔_}
 use mathlib.Core.Bool.{Bool, true, false, _||_}
 use mathlib.Core.List.{List, [], _++_}
 use Prim.Native.Nat.{ℕ, suc, _+_, _-_, _<_}
@@ -9,7 +8,7 @@ use lib.Dec.{ltb, eqb}
 use borrow.Author.Tests.{le-ltb}
 use lib.ListN.{length, getD, length-append, List·getD-append}
 use Rattle.model.specs.declared.Head.{Head}
-use Rattle.model.specs.Graph.{Graph, Largest, CoreInside, limits, ride-limit, own-limits, marked, present, index-of}
+use Rattle.model.specs.Graph.{Graph, limits, ride-limit, own-limits, marked, present, index-of}
 use Rattle.model.specs.Layout.{pair-places, mark-places, listed, counting-graph}
 use Rattle.model.specs.Refusal.{refused-3, first-number, table-cases, cover-short, peel-refusal, own-cover-refusal}
 use Rattle.model.specs.Calls.{QueryOutcome, shown, not-shown, board-query, board-peel, present-cover, board-own-cover}
