@@ -2,7 +2,7 @@
 use mathlib.Core.Path.{_≡_, refl, sym, ap, _∙_}
 use mathlib.Core.Bool.{Bool, true, false, _||_}
 use mathlib.Core.List.{List, [], _++_}
-use Prim.Native.Nat.{ℕ, suc, _+_, _-_, _<_}
+use Prim.Native.Nat.{ℕ, suc, _+_, _-_, _≤_, _<_}
 use native.Mathlib.Omega.{arith}
 use lib.Dec.{ltb, eqb}
 use borrow.Author.Tests.{le-ltb}
@@ -24,12 +24,18 @@ use Rattle.model.proofs.PresentCover.{present-cover-same, query-cover, 
 at-ride : (n : ℕ) (minimums : List ℕ) (α β v : ℕ) → own-limits n minimums α β (n + v) ≡ ride-limit minimums β v
 at-ride n minimums α β v = own-ride n minimums α β (n + v) (omega arith) ∙ ap (ride-limit minimums β) (let e : n + v - n ≡ v = omega arith in e)
 
+-- words behind the rides' minimums change no limit
+behind-limits : (n m : ℕ) (minimums more : List ℕ) (α β : ℕ) → m ≤ length minimums → (x : ℕ) → x < n + m → own-limits n (minimums ++ more) α β x ≡ own-limits n minimums α β x
+behind-limits n m minimums more α β long =
+    own-same n m (minimums ++ more) minimums α β β (λ v l. ap (λ (k : ℕ). elim (eqb k 0) [ true ↦ β | false ↦ k ]) (List·getD-append minimums more 0 v (omega arith)))
+
 pub own-limits-laws : (minimums : List ℕ) (α β : ℕ) → OwnLimitsLaws minimums α β
 own-limits-laws minimums α β =
     record {
       operator = λ n. own-operator n minimums α β;
       own = λ n v e. at-ride n minimums α β v ∙ ride-own minimums β v (getD minimums v 0) (omega arith) refl;
       none = λ n v e. at-ride n minimums α β v ∙ ride-none minimums β v e;
+      behind = λ n m more. behind-limits n m minimums more α β;
       all-equal = λ g m l all. own-core g minimums α β m (λ v k. ride-own minimums β v m l (all v k));
       all-zero = λ g all. own-core g minimums α β β (λ v k. ride-none minimums β v (all v k));
     }
@@ -93,9 +99,8 @@ behind-same h operators rides presence minimums α β marks more e =
     let long = peel-lent h operators rides presence minimums marks [] none .1 in
     let s : Bool = cover-short h operators rides presence marks in
     let more-long : ltb (length (minimums ++ more)) (h .rides) ≡ ltb (length minimums) (h .rides) = le-ltb (length (minimums ++ more)) (h .rides) (omega (arith, length-append minimums more)) ∙ sym (le-ltb (length minimums) (h .rides) long) in
-    let same-limits : (v : ℕ) → v < h .rides → ride-limit (minimums ++ more) β v ≡ ride-limit minimums β v = λ v l. ap (λ (m : ℕ). elim (eqb m 0) [ true ↦ β | false ↦ m ]) (List·getD-append minimums more 0 v (omega arith)) in
     own-taken h operators rides presence (minimums ++ more) α β marks (ap (λ (b : Bool). first-number (table-cases h (s || b) operators rides)) more-long ∙ none) ∙
-    ap (λ (c : List ℕ). shown h c marks) (present-cover-same h operators rides presence (own-limits (h .operators) (minimums ++ more) α β) (own-limits (h .operators) minimums α β) (own-same (h .operators) (h .rides) (minimums ++ more) minimums α β β same-limits)) ∙
+    ap (λ (c : List ℕ). shown h c marks) (present-cover-same h operators rides presence (own-limits (h .operators) (minimums ++ more) α β) (own-limits (h .operators) minimums α β) (behind-limits (h .operators) (h .rides) minimums more α β long)) ∙
     sym (own-taken h operators rides presence minimums α β marks none)
 
 -- of the marks that come in the number looks at the length alone

@@ -289,6 +289,9 @@ pub record OwnLimitsLaws (minimums : List ℕ) (α β : ℕ) : Type 0 where
   -- a ride's own minimum where there is one, also where it is smaller than β; β elsewhere
   pub own : (operators v : ℕ) → getD minimums v 0 ≢ 0 → own-limits operators minimums α β (operators + v) ≡ getD minimums v 0
   pub none : (operators v : ℕ) → getD minimums v 0 ≡ 0 → own-limits operators minimums α β (operators + v) ≡ β
+  -- words behind the rides' minimums change no limit
+  pub behind : (operators rides : ℕ) (more : List ℕ) → rides ≤ length minimums → (x : ℕ) → x < operators + rides →
+      own-limits operators (minimums ++ more) α β x ≡ own-limits operators minimums α β x
   -- where they are all equal to one m above 0, the largest set under them is that of (α, m); where they are all 0, that of (α, β)
   pub all-equal : (g : Graph) (m : ℕ) → 1 ≤ m → MinimumsAll (g .rides) minimums m → (here s : ℕ → Bool) →
       Largest g (own-limits (g .operators) minimums α β) here s ↔ CoreInside g here α m s
