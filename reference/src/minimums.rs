@@ -2,7 +2,7 @@
 //! a coaster that needs five and a carousel that needs two.
 
 use crate::presence::{Words, EVERYBODY, NEITHER, NOBODY, NO_OPERATOR_2, NO_RIDE_1, ODD};
-use crate::samples::{head, Pair, BUILT, PAIRS};
+use crate::samples::{counts, head, steps, Pair, BUILT, PAIRS};
 use crate::Head;
 
 /// A minimum for each of 3 rides.
@@ -31,13 +31,12 @@ impl Sample {
 
     /// How many operators and rides are in.
     pub fn counts(&self) -> [u16; 2] {
-        let (operators, rides) = self.marks.split_at(self.operators as usize);
-        [operators.iter().sum(), rides.iter().sum()]
+        counts(self.operators, self.marks)
     }
 
-    /// The steps of a settled peel from all ones: one for each who is not in.
+    /// The steps of a settled peel from all ones.
     pub fn steps(&self) -> u16 {
-        self.marks.iter().map(|mark| 1 - mark).sum()
+        steps(self.marks)
     }
 }
 

@@ -37,14 +37,24 @@ impl Sample {
 
     /// How many operators and rides are in.
     pub fn counts(&self) -> [u16; 2] {
-        let (operators, rides) = self.marks.split_at(self.operators as usize);
-        [operators.iter().sum(), rides.iter().sum()]
+        counts(self.operators, self.marks)
     }
 
-    /// The steps of a settled peel from all ones: one for each who is not in.
+    /// The steps of a settled peel from all ones.
     pub fn steps(&self) -> u16 {
-        self.marks.iter().map(|mark| 1 - mark).sum()
+        steps(self.marks)
     }
+}
+
+/// How many operators and rides are marked, of so many operators.
+pub fn counts(operators: u16, marks: &[u16]) -> [u16; 2] {
+    let (operators, rides) = marks.split_at(operators as usize);
+    [operators.iter().sum(), rides.iter().sum()]
+}
+
+/// The steps of a peel from all ones that settles at these marks: one for each who is not in.
+pub fn steps(marks: &[u16]) -> u16 {
+    marks.iter().map(|mark| 1 - mark).sum()
 }
 
 /// Document 01's board.

@@ -303,9 +303,51 @@ fn absent(board: &mut Store, node: usize) {
     assert_eq!(board.message(one).code, 0);
 }
 
-/// Definition 2.1 over every set of every table of up to 3 by 3, for limits from 0 and whoever is off and out: inside
-/// any marks there is a largest set that meets the limits, and a peel settles on it. From all ones it is the cover, and
-/// what a query marks.
+/// The boards of every table of so many operators and rides, with each of these sets off or out, as bits.
+fn boards(n: usize, m: usize, absences: &[u32]) -> Vec<(Store, u32)> {
+    let of_table = |table: u32, absence: u32| {
+        let places = (0..n * m).filter(|place| table >> place & 1 == 1);
+        let pairs: Vec<(u16, u16)> = places.map(|place| ((place / m) as u16, (place % m) as u16)).collect();
+        let mut board = Store::new(n as u16, m as u16, &pairs);
+        assert_eq!(board.build(1), 0);
+        (0..n + m).filter(|node| absence >> node & 1 == 1).for_each(|node| absent(&mut board, node));
+        (board, absence)
+    };
+    (0..1 << (n * m)).flat_map(|table| absences.iter().map(move |&absence| of_table(table, absence))).collect()
+}
+
+/// Definition 2.1 over every set of a board, with limits from 0, one for each ride, and whoever is off and out: inside any
+/// marks there is a largest set that meets the limits, and a peel settles on it. Gives the marks of the one from all ones.
+fn largest(board: &(Store, u32), minimums: &[u16], (alpha, beta): (u16, u16)) -> Vec<u16> {
+    let (board, absence) = board;
+    let (n, m) = (board.head.operators as usize, board.head.rides as usize);
+    let pairs = listed(board.head, &board.parts.operators, &board.parts.rides);
+    let table = pairs.iter().fold(0u32, |table, &(o, r)| table | 1 << (o as usize * m + r as usize));
+    let at = |o: usize, r: usize| table >> (o * m + r) & 1 == 1;
+    let limit = |r: usize| if minimums[r] == 0 { beta } else { minimums[r] };
+    // Whoever meets a limit is on or in, and so are all that it is counted with.
+    let meets = |set: &u32| {
+        let has = |node: usize| set >> node & 1 == 1;
+        let rides = |o: usize| (0..m).filter(|&r| has(n + r) && at(o, r)).count();
+        let operators = |r: usize| (0..n).filter(|&o| has(o) && at(o, r)).count();
+        set & absence == 0
+            && (0..n).all(|o| !has(o) || rides(o) >= alpha as usize)
+            && (0..m).all(|r| !has(n + r) || operators(r) >= limit(r) as usize)
+    };
+    let marks = |set: u32| (0..n + m).map(|node| (set >> node & 1) as u16).collect::<Vec<u16>>();
+    let sets: Vec<u32> = (0..1u32 << (n + m)).filter(meets).collect();
+    for came in 0..1u32 << (n + m) {
+        let largest = sets.iter().filter(|&set| set & !came == 0).fold(0, |all, set| all | set);
+        assert!(meets(&largest));
+        let mut left = marks(came);
+        let steps = came.count_ones() as u16 - largest.count_ones() as u16;
+        let peeled = board.peel_with(minimums, &mut left, (alpha, beta), 65_535);
+        assert_eq!((peeled, left), (Peeled { code: 0, settled: 1, steps }, marks(largest)));
+    }
+    marks(sets.iter().fold(0, |all, set| all | set))
+}
+
+/// On every table of up to 3 by 3 the largest set from all ones is the cover, and what a query marks.
 #[test]
 fn cover_is_the_largest() {
     for (n, m) in [(0, 0), (0, 2), (2, 0), (2, 2), (1, 3), (3, 1), (2, 3), (3, 2), (3, 3)] {
@@ -315,43 +357,28 @@ fn cover_is_the_largest() {
             5 => vec![0, 1, 1 << n, 1 | 1 << 4, (1 << 5) - 1],
             _ => vec![0, 1 << 1 | 1 << n],
         };
-        for (table, absence) in (0..1u32 << (n * m)).flat_map(|table| absences.iter().map(move |set| (table, *set))) {
-            let at = |o: usize, r: usize| table >> (o * m + r) & 1 == 1;
-            let pairs: Vec<(u16, u16)> =
-                (0..n * m).filter(|p| at(p / m, p % m)).map(|p| ((p / m) as u16, (p % m) as u16)).collect();
-            let mut board = Store::new(n as u16, m as u16, &pairs);
-            assert_eq!(board.build(1), 0);
-            (0..n + m).filter(|node| absence >> node & 1 == 1).for_each(|node| absent(&mut board, node));
-            let counting = Counting::new(board.head, &pairs.iter().copied().collect(), &board.parts.presence);
+        for board in boards(n, m, &absences) {
+            let (head, Vectors { operators, rides, presence, .. }) = (board.0.head, &board.0.parts);
+            let counting = Counting::new(head, &listed(head, operators, rides), presence);
             for (alpha, beta) in (0..=m + 1).flat_map(|a| (0..=n + 1).map(move |b| (a, b))) {
-                // Whoever meets a limit is on or in, and so are all that it is counted with.
-                let meets = |set: &u32| {
-                    let has = |node: usize| set >> node & 1 == 1;
-                    set & absence == 0
-                        && (0..n).all(|o| !has(o) || (0..m).filter(|&r| has(n + r) && at(o, r)).count() >= alpha)
-                        && (0..m).all(|r| !has(n + r) || (0..n).filter(|&o| has(o) && at(o, r)).count() >= beta)
-                };
-                let marks = |set: u32| (0..n + m).map(|node| (set >> node & 1) as u16).collect::<Vec<u16>>();
-                let sets: Vec<u32> = (0..1u32 << (n + m)).filter(meets).collect();
-                for came in 0..1u32 << (n + m) {
-                    let largest = sets.iter().filter(|&set| set & !came == 0).fold(0, |all, set| all | set);
-                    assert!(meets(&largest));
-                    let mut left = marks(came);
-                    let steps = came.count_ones() as u16 - largest.count_ones() as u16;
-                    let peeled = board.peel(&mut left, alpha as u16, beta as u16, 65535);
-                    assert_eq!((peeled, left), (Peeled { code: 0, settled: 1, steps }, marks(largest)));
-                }
-                let largest = marks(sets.iter().fold(0, |all, set| all | set));
+                let limits = (alpha as u16, beta as u16);
+                let largest = largest(&board, &vec![0; m], limits);
                 let (operators, rides) = core(&counting, alpha, beta);
                 let found: Vec<u16> =
                     (0..n).map(|o| operators.has(o)).chain((0..m).map(|r| rides.has(r))).map(u16::from).collect();
                 assert_eq!(found, largest);
                 let (operators, rides) = (largest[..n].iter().sum(), largest[n..].iter().sum());
                 let counts = Counts { code: 0, operators, rides };
-                assert_eq!(board.query(alpha as u16, beta as u16), (counts, largest));
+                assert_eq!(board.0.query(limits.0, limits.1), (counts, largest));
             }
         }
     }
+}
+
+/// What a cover gives that marks these, where the two marks behind came in as this word.
+fn shown(head: Head, marks: &[u16], word: u16) -> (Counts, Vec<u16>) {
+    let [operators, rides] = samples::counts(head.operators, marks);
+    (Counts { code: 0, operators, rides }, [marks, &[word; 2]].concat())
 }
 
 // Corrections within one stamp

@@ -22,12 +22,11 @@ use Rattle.model.specs.Outcome.{queried}
 use Rattle.model.proofs.Count.{by-test}
 use Rattle.model.proofs.Chain.{first-here, first-skip}
 use Rattle.model.proofs.Cover.{ride-none, own-one}
-use Rattle.model.proofs.Refusal.{peel-lent}
 use Rattle.model.proofs.CrowdTable.{limits-taken, code-refusal}
 use Rattle.model.proofs.PresentCover.{present-cover-same, call-not-shown}
 use Rattle.model.proofs.CrowdCover.{cover-taken, cover-refused, number-front, number-behind}
 use Rattle.pairs.specs.Accepted.{AcceptedPairs}
-use Rattle.peel_refusals.proofs.Chain.{lent-pairs}
+use Rattle.peel_refusals.proofs.Chain.{lent-accepted}
 use Rattle.bands.specs.declared.Found.{Found}
 
 -- no minimum for any ride
@@ -77,9 +76,7 @@ module _ (h : Head) (operators rides presence : List ℕ) (t : Bands) (guests : 
 
   module _ (z : k ≡ 0) where
     pub accepted : AcceptedPairs h operators rides × (mark-places h ≤ length presence) × (h .rides ≤ length zeros) × (mark-places h ≤ length marks)
-    accepted =
-        let l = peel-lent h operators rides presence zeros marks [] (sym lent ∙ z) in
-        (lent-pairs h operators rides presence marks (l .0), l .0 .presence-long, l .1, l .0 .marks-long)
+    accepted = lent-accepted h operators rides presence zeros marks [] (sym lent ∙ z)
 
     -- the look-up finds f
     module _ (f : Found) (looked : record { code = f .number; alpha = f .alpha; beta = f .beta } ≡ board-crowd-limits t guests) where

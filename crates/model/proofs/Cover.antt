@@ -49,21 +49,18 @@ module _ (n : ℕ) (minimums : List ℕ) (α β x : ℕ) where
   unfolding own-limits
   own-ride h = limits-ride n α (ride-limit minimums β (x - n)) x h
 
--- where the limits of the rides are those of other minimums, so are those of all nodes
-pub own-same : (n m : ℕ) (minimums minimums′ : List ℕ) (α β β′ : ℕ) → ((v : ℕ) → v < m → ride-limit minimums β v ≡ ride-limit minimums′ β′ v) → (x : ℕ) → x < n + m → own-limits n minimums α β x ≡ own-limits n minimums′ α β′ x
-own-same n m minimums minimums′ α β β′ same x l =
+-- limits of which the rides' are the same, ride by ride, are the same for every node
+pub limits-rides : (n m α : ℕ) (f f′ : ℕ → ℕ) → ((v : ℕ) → v < m → f v ≡ f′ v) → (x : ℕ) → x < n + m → limits n α (f (x - n)) x ≡ limits n α (f′ (x - n)) x
+limits-rides n m α f f′ same x l =
     elim (decLt x n) [
-      | yes h ↦ own-operator n minimums α β x h ∙ sym (own-operator n minimums′ α β′ x h)
-      | no h ↦ own-ride n minimums α β x (omega arith) ∙ same (x - n) (omega arith) ∙ sym (own-ride n minimums′ α β′ x (omega arith))
+      | yes h ↦ limits-operator n α (f (x - n)) x h ∙ sym (limits-operator n α (f′ (x - n)) x h)
+      | no h ↦ ap (λ (k : ℕ). limits n α k x) (same (x - n) (omega arith))
     ]
 
 -- where every ride has the limit b, they are the limits (α, b)
 pub own-one : (n m : ℕ) (minimums : List ℕ) (α β b : ℕ) → ((v : ℕ) → v < m → ride-limit minimums β v ≡ b) → (x : ℕ) → x < n + m → own-limits n minimums α β x ≡ limits n α b x
-own-one n m minimums α β b one x l =
-    elim (decLt x n) [
-      | yes h ↦ own-operator n minimums α β x h ∙ sym (limits-operator n α b x h)
-      | no h ↦ own-ride n minimums α β x (omega arith) ∙ one (x - n) (omega arith) ∙ sym (limits-ride n α b x (omega arith))
-    ]
+unfolding own-limits
+own-one n m minimums α β b = limits-rides n m α (ride-limit minimums β) (λ v. b)
 
 -- ---- larger limits
 

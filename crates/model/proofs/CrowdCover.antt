@@ -1,18 +1,17 @@
 -- The cover for a guest count: its number, and that it is the core for the limits of its band. Assumes nothing.
 use mathlib.Core.Path.{_≡_, refl, sym, ap, _∙_, subst}
 use mathlib.Core.Logic.{_≢_}
-use mathlib.Core.Bool.{Bool, _||_}
+use mathlib.Core.Bool.{Bool}
 use mathlib.Core.List.{List, [], _++_}
 use Prim.Native.Nat.{ℕ, suc}
 use native.Mathlib.Omega.{arith}
-use lib.Dec.{ltb}
 use lib.ListN.{length}
 use Rattle.model.specs.declared.Head.{Head}
 use Rattle.model.specs.declared.Bands.{Bands}
 use Rattle.model.specs.declared.CrowdLimits.{CrowdLimits}
 use Rattle.model.specs.Graph.{Graph, present, index-of}
-use Rattle.model.specs.Layout.{pair-places, mark-places, listed, counting-graph}
-use Rattle.model.specs.Refusal.{refused-3, first-number, table-cases, cover-short, cover-cases}
+use Rattle.model.specs.Layout.{listed, counting-graph}
+use Rattle.model.specs.Refusal.{first-number, table-cases, cover-short, cover-cases}
 use Rattle.model.specs.Calls.{QueryOutcome, shown, not-shown, board-query, present-cover}
 use Rattle.model.specs.Crowd.{crowd-cases, crowd-refusal, band-for, board-crowd-limits, band-limits, crowd-cover-refusal, board-crowd-cover}
 use Rattle.model.specs.Demand.{IsCore, CrowdCoverLaws}
@@ -20,7 +19,7 @@ use Rattle.model.proofs.Chain.{Positive, first-front, first-behind, fir
 use Rattle.model.proofs.Refusal.{cover-lent}
 use Rattle.model.proofs.CrowdTable.{limits-code, limits-taken}
 use Rattle.model.proofs.EndToEnd.{query-shown}
-use Rattle.model.proofs.PresentCover.{query-cover, call-code, code-number, call-under, call-refused, call-behind, call-answer}
+use Rattle.model.proofs.PresentCover.{query-cover, short-length, call-code, code-number, call-under, call-keeps, call-answer}
 
 positive-cover : (h : Head) (operators rides presence marks : List ℕ) → Positive (cover-cases h operators rides presence marks)
 positive-cover h operators rides presence marks = (omega arith, (omega arith, (omega arith, (omega arith, (omega arith, tt)))))
@@ -76,12 +75,10 @@ module _ (h : Head) (operators rides presence : List ℕ) (t : Bands) (guests : 
       ap (λ (s : List ℕ). shown h s marks) (query-cover h operators rides presence α β) ∙
       sym (cover-taken e)
 
--- of the marks that come in the number looks at the length alone
 number-length : (h : Head) (operators rides presence : List ℕ) (t : Bands) (guests : ℕ) (marks other : List ℕ) → length other ≡ length marks → crowd-cover-refusal h operators rides presence t guests other ≡ crowd-cover-refusal h operators rides presence t guests marks
 unfolding crowd-cover-refusal
 number-length h operators rides presence t guests marks other e =
-    let o : Bool = refused-3 (pair-places h) operators || refused-3 (pair-places h) rides || refused-3 (mark-places h) presence in
-    ap (λ (n : ℕ). first-number (table-cases h (o || ltb n (mark-places h)) operators rides ++ crowd-cases t guests)) e
+    ap (λ (s : Bool). first-number (table-cases h s operators rides ++ crowd-cases t guests)) (short-length h operators rides presence marks other e)
 
 any-marks : (h : Head) (operators rides presence : List ℕ) (t : Bands) (guests : ℕ) (marks other : List ℕ) → length other ≡ length marks → board-crowd-cover h operators rides presence t guests other .answer ≡ board-crowd-cover h operators rides presence t guests marks .answer
 any-marks h operators rides presence t guests marks other e =
@@ -99,15 +96,11 @@ crowd-cover-laws h operators rides presence t guests marks =
     let taken = cover-taken h operators rides presence t guests marks in
     let refused = cover-refused h operators rides presence t guests marks in
     let number-of = code-number h operators rides presence limit marks number outcome taken refused in
-    let by-refusal = call-refused h operators rides presence limit marks number outcome taken refused in
     record {
       board-first = λ n. cover-code h operators rides presence t guests marks _ (number-front h operators rides presence t guests marks n);
       then-bands = λ e. cover-code h operators rides presence t guests marks _ (number-behind h operators rides presence t guests marks e) ∙ sym (limits-code t guests _ refl);
       core = λ e. taken-core h operators rides presence t guests marks (number-of 0 e);
-      kept = λ n. by-refusal (λ (o : QueryOutcome). o .marks ≡ marks) n (λ k. refl);
-      no-operators = λ n. by-refusal (λ (o : QueryOutcome). o .answer .operators ≡ 0) n (λ k. refl);
-      no-rides = λ n. by-refusal (λ (o : QueryOutcome). o .answer .rides ≡ 0) n (λ k. refl);
-      behind = call-behind h operators rides presence limit marks number outcome taken refused;
+      keeps = call-keeps h operators rides presence limit marks number outcome taken refused;
       any-answer = any-marks h operators rides presence t guests marks;
       as-query = λ more e. taken-query h operators rides presence t guests marks more (number-of 0 e);
     }

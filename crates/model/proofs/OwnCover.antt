@@ -9,15 +9,15 @@ use borrow.Author.Tests.{le-ltb}
 use lib.ListN.{length, getD, length-append, List·getD-append}
 use Rattle.model.specs.declared.Head.{Head}
 use Rattle.model.specs.Graph.{Graph, limits, ride-limit, own-limits, marked, present, index-of}
-use Rattle.model.specs.Layout.{pair-places, mark-places, listed, counting-graph}
+use Rattle.model.specs.Layout.{mark-places, listed, counting-graph}
 use Rattle.model.specs.Refusal.{refused-3, first-number, table-cases, cover-short, peel-refusal, own-cover-refusal}
 use Rattle.model.specs.Calls.{QueryOutcome, shown, not-shown, board-query, board-peel, present-cover, board-own-cover}
 use Rattle.model.specs.Demand.{AllOnes, IsCoverUnder, IsCore, OwnLimitsLaws, MinimumsAll, OwnCoverLaws}
-use Rattle.model.proofs.Cover.{ride-none, ride-own, own-operator, own-ride, own-same, own-one, own-core}
+use Rattle.model.proofs.Cover.{ride-none, ride-own, own-operator, own-ride, limits-rides, own-one, own-core}
 use Rattle.model.proofs.Peel.{peel-laws}
 use Rattle.model.proofs.Refusal.{peel-lent}
 use Rattle.model.proofs.EndToEnd.{query-shown, peel-is-cover}
-use Rattle.model.proofs.PresentCover.{present-cover-same, query-cover, call-code, code-number, call-under, call-refused, call-behind, call-answer}
+use Rattle.model.proofs.PresentCover.{present-cover-same, query-cover, short-length, call-code, code-number, call-under, call-keeps, call-answer}
 
 -- ---- the limits
 
@@ -26,8 +26,9 @@ at-ride n minimums α β v = own-ride n minimums α β (n + v) (omega arith) ∙
 
 -- words behind the rides' minimums change no limit
 behind-limits : (n m : ℕ) (minimums more : List ℕ) (α β : ℕ) → m ≤ length minimums → (x : ℕ) → x < n + m → own-limits n (minimums ++ more) α β x ≡ own-limits n minimums α β x
+unfolding own-limits
 behind-limits n m minimums more α β long =
-    own-same n m (minimums ++ more) minimums α β β (λ v l. ap (λ (k : ℕ). elim (eqb k 0) [ true ↦ β | false ↦ k ]) (List·getD-append minimums more 0 v (omega arith)))
+    limits-rides n m α (ride-limit (minimums ++ more) β) (ride-limit minimums β) (λ v l. ap (λ (k : ℕ). elim (eqb k 0) [ true ↦ β | false ↦ k ]) (List·getD-append minimums more 0 v (omega arith)))
 
 pub own-limits-laws : (minimums : List ℕ) (α β : ℕ) → OwnLimitsLaws minimums α β
 own-limits-laws minimums α β =
@@ -103,12 +104,10 @@ behind-same h operators rides presence minimums α β marks more e =
     ap (λ (c : List ℕ). shown h c marks) (present-cover-same h operators rides presence (own-limits (h .operators) (minimums ++ more) α β) (own-limits (h .operators) minimums α β) (behind-limits (h .operators) (h .rides) minimums more α β long)) ∙
     sym (own-taken h operators rides presence minimums α β marks none)
 
--- of the marks that come in the number looks at the length alone
 number-length : (h : Head) (operators rides presence minimums marks other : List ℕ) → length other ≡ length marks → own-cover-refusal h operators rides presence minimums other ≡ own-cover-refusal h operators rides presence minimums marks
 unfolding own-cover-refusal
 number-length h operators rides presence minimums marks other e =
-    let o : Bool = refused-3 (pair-places h) operators || refused-3 (pair-places h) rides || refused-3 (mark-places h) presence in
-    ap (λ (n : ℕ). first-number (table-cases h (o || ltb n (mark-places h) || refused-3 (h .rides) minimums) operators rides)) e
+    ap (λ (s : Bool). first-number (table-cases h (s || refused-3 (h .rides) minimums) operators rides)) (short-length h operators rides presence marks other e)
 
 any-marks : (h : Head) (operators rides presence minimums : List ℕ) (α β : ℕ) (marks other : List ℕ) → length other ≡ length marks → board-own-cover h operators rides presence minimums α β other .answer ≡ board-own-cover h operators rides presence minimums α β marks .answer
 any-marks h operators rides presence minimums α β marks other e =
@@ -127,7 +126,6 @@ own-cover-laws h operators rides presence minimums α β marks =
     let outcome : QueryOutcome = board-own-cover h operators rides presence minimums α β marks in
     let taken = own-taken h operators rides presence minimums α β marks in
     let refused = own-refused h operators rides presence minimums α β marks in
-    let by-refusal = call-refused h operators rides presence limit marks number outcome taken refused in
     record {
       number = own-code h operators rides presence minimums α β marks _ refl;
       own = under h operators rides presence minimums α β marks;
@@ -135,10 +133,7 @@ own-cover-laws h operators rides presence minimums α β marks =
       all-equal = λ m l all. one-core h operators rides presence minimums α β marks m (λ v k. ride-own minimums β v m l (all v k));
       all-zero = λ all. one-core h operators rides presence minimums α β marks β (λ v k. ride-none minimums β v (all v k));
       as-query = queried-same h operators rides presence minimums α β marks;
-      kept = λ n. by-refusal (λ (o : QueryOutcome). o .marks ≡ marks) n (λ k. refl);
-      no-operators = λ n. by-refusal (λ (o : QueryOutcome). o .answer .operators ≡ 0) n (λ k. refl);
-      no-rides = λ n. by-refusal (λ (o : QueryOutcome). o .answer .rides ≡ 0) n (λ k. refl);
-      behind = call-behind h operators rides presence limit marks number outcome taken refused;
+      keeps = call-keeps h operators rides presence limit marks number outcome taken refused;
       any-answer = any-marks h operators rides presence minimums α β marks;
       any-behind = behind-same h operators rides presence minimums α β marks;
     }

@@ -1,20 +1,22 @@
 -- The cover of those present under a limit for each node, and what a call gives that shows it or is refused. Assumes nothing.
 use mathlib.Core.Path.{_≡_, refl, sym, ap, _∙_, subst}
 use mathlib.Core.Logic.{_≢_}
-use mathlib.Core.Bool.{true, false}
+use mathlib.Core.Bool.{Bool, true, false, _||_}
 use mathlib.Core.List.{List}
 use Prim.Native.Nat.{ℕ, zero, suc, _≤_, _<_}
 use native.Mathlib.Omega.{arith}
+use lib.Dec.{ltb}
 use lib.ListN.{length, getD, drop}
 use lib.Seq.{drop-at}
 use Rattle.model.specs.declared.Head.{Head}
 use Rattle.model.specs.declared.Counts.{Counts}
 use Rattle.model.specs.Count.{bit}
 use Rattle.model.specs.Graph.{Graph, nodes, Largest, everybody, limits, marked, present, raised, cover-under, index-of}
-use Rattle.model.specs.Layout.{mark-places, listed, counting-graph}
+use Rattle.model.specs.Layout.{pair-places, mark-places, listed, counting-graph}
+use Rattle.model.specs.Refusal.{refused-3, cover-short}
 use Rattle.model.specs.Calls.{QueryOutcome, query-marks, counts, shown, not-shown, present-limits, present-cover}
 use Rattle.model.specs.Outcome.{queried}
-use Rattle.model.specs.Demand.{IsCoverUnder}
+use Rattle.model.specs.Demand.{IsCoverUnder, Keeps}
 use Rattle.model.proofs.Count.{bit-le, length-values, getD-values}
 use Rattle.model.proofs.Cover.{under-length, under-bits, under-same, cover-under-laws}
 use Rattle.model.proofs.Presence.{largest-inside, inside-largest}
@@ -66,6 +68,12 @@ query-cover h operators rides presence α β =
 
 -- ---- a call that shows it, or is refused
 
+-- of the marks that come in the length counts alone
+pub short-length : (h : Head) (operators rides presence marks other : List ℕ) → length other ≡ length marks → cover-short h operators rides presence other ≡ cover-short h operators rides presence marks
+short-length h operators rides presence marks other e =
+    let o : Bool = refused-3 (pair-places h) operators || refused-3 (pair-places h) rides || refused-3 (mark-places h) presence in
+    ap (λ (n : ℕ). o || ltb n (mark-places h)) e
+
 module _ (h : Head) (operators rides presence : List ℕ) (limit : ℕ → ℕ) (marks : List ℕ) (number : ℕ) (outcome : QueryOutcome) (taken : number ≡ 0 → outcome ≡ shown h (present-cover h operators rides presence limit) marks) (refused : (k : ℕ) → number ≡ suc k → outcome ≡ not-shown (suc k) marks) where
   abbrev cover : List ℕ
   cover = present-cover h operators rides presence limit
@@ -90,23 +98,30 @@ module _ (h : Head) (operators rides presence : List ℕ) (limit : ℕ → ℕ) 
   call-not-shown zero n e r is = absurd (n refl)
   call-not-shown (suc j) n e r is = ap (λ (c : Counts). queried c marks) is ∙ sym (refused j e)
 
-  -- what a refusal leaves
-  pub call-refused : (P : QueryOutcome → Type 0) → outcome .answer .code ≢ 0 → ((k : ℕ) → P (not-shown (suc k) marks)) → P outcome
-  call-refused P n f = go number refl
+  refused-keeps : (P : QueryOutcome → Type 0) → ((k : ℕ) → P (not-shown (suc k) marks)) → outcome .answer .code ≢ 0 → P outcome
+  refused-keeps P f n = go number refl
     where
       go : (k : ℕ) → number ≡ k → P outcome
       go zero e = absurd (n (call-code 0 e))
       go (suc k) e = subst P (sym (refused k e)) (f k)
 
-  -- places past the nodes stay
-  pub call-behind : drop (mark-places h) (outcome .marks) ≡ drop (mark-places h) marks
-  call-behind = go number refl
+  past-nodes : drop (mark-places h) (outcome .marks) ≡ drop (mark-places h) marks
+  past-nodes = go number refl
     where
       go : (k : ℕ) → number ≡ k → drop (mark-places h) (outcome .marks) ≡ drop (mark-places h) marks
       go zero e =
           let l = present-cover-length h operators rides presence limit in
           ap (λ (o : QueryOutcome). drop (mark-places h) (o .marks)) (taken e) ∙ drop-at cover (drop (length cover) marks) (mark-places h) l ∙ ap (λ (k : ℕ). drop k marks) l
       go (suc k) e = ap (λ (o : QueryOutcome). drop (mark-places h) (o .marks)) (refused k e)
+
+  pub call-keeps : Keeps h marks outcome
+  call-keeps =
+      record {
+        kept = refused-keeps (λ (o : QueryOutcome). o .marks ≡ marks) (λ k. refl);
+        no-operators = refused-keeps (λ (o : QueryOutcome). o .answer .operators ≡ 0) (λ k. refl);
+        no-rides = refused-keeps (λ (o : QueryOutcome). o .answer .rides ≡ 0) (λ k. refl);
+        behind = past-nodes;
+      }
 
   -- the answer follows from the number
   abbrev pub answer-by : ℕ → Counts

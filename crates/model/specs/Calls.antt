@@ -121,7 +121,7 @@ unfoldable pub present-cover : Head → List ℕ → List ℕ → List ℕ → (
 present-cover h operators rides presence limit =
     cover-under (counting-graph h operators rides presence) (present-limits h presence limit)
 
--- Cover with minimums
+-- Own cover: the cover with minimums
 unfoldable pub board-own-cover : Head → List ℕ → List ℕ → List ℕ → List ℕ → ℕ → ℕ → List ℕ → QueryOutcome
 board-own-cover h operators rides presence minimums α β marks =
     elim (own-cover-refusal h operators rides presence minimums marks) [

@@ -216,7 +216,14 @@ pub record IsCoverUnder (g : Graph) (here : ℕ → Bool) (limit : ℕ → ℕ) 
   pub operators : o .answer .operators ≡ count (g .operators) (marked (o .marks))
   pub rides : o .answer .rides ≡ count (g .rides) (λ v. marked (o .marks) (g .operators + v))
 
--- the same under the limits (α, β): it is the (α, β)-core of those who are here, with its sizes
+-- a cover that is refused leaves the marks, with counts of 0; refused or not, marks past operators + rides stay
+pub record Keeps (h : Head) (marks : List ℕ) (o : QueryOutcome) : Type 0 where
+  pub kept : o .answer .code ≢ 0 → o .marks ≡ marks
+  pub no-operators : o .answer .code ≢ 0 → o .answer .operators ≡ 0
+  pub no-rides : o .answer .code ≢ 0 → o .answer .rides ≡ 0
+  pub behind : drop (mark-places h) (o .marks) ≡ drop (mark-places h) marks
+
+-- the (α, β)-core of those who are here, with its sizes: the largest set under the limits (α, β)
 abbrev pub IsCore : Graph → (ℕ → Bool) → ℕ → ℕ → QueryOutcome → Type 0
 IsCore g here α β o = IsCoverUnder g here (limits (g .operators) α β) o
 
@@ -332,15 +339,8 @@ pub record OwnCoverLaws (h : Head) (operators rides presence minimums : List ℕ
   -- with all minimums 0 a query for these limits on an index of the same pairs gives the same
   pub as-query : (more : List ℕ) → MinimumsAll (h .rides) minimums 0 → board-own-cover h operators rides presence minimums α β marks .answer .code ≡ 0 →
       board-query h (index-of (counting-graph h operators rides presence) ++ more) presence α β marks ≡ board-own-cover h operators rides presence minimums α β marks
-  -- refused, it leaves the marks, and its counts are 0
-  pub kept : board-own-cover h operators rides presence minimums α β marks .answer .code ≢ 0 →
-      board-own-cover h operators rides presence minimums α β marks .marks ≡ marks
-  pub no-operators : board-own-cover h operators rides presence minimums α β marks .answer .code ≢ 0 →
-      board-own-cover h operators rides presence minimums α β marks .answer .operators ≡ 0
-  pub no-rides : board-own-cover h operators rides presence minimums α β marks .answer .code ≢ 0 →
-      board-own-cover h operators rides presence minimums α β marks .answer .rides ≡ 0
-  -- places past operators + rides stay
-  pub behind : drop (mark-places h) (board-own-cover h operators rides presence minimums α β marks .marks) ≡ drop (mark-places h) marks
+  -- refused, it leaves the marks, and its counts are 0; places past operators + rides stay
+  pub keeps : Keeps h marks (board-own-cover h operators rides presence minimums α β marks)
   -- the marks that come in aren't read, nor are words behind the rides' minimums
   pub any-answer : (other : List ℕ) → length other ≡ length marks →
       board-own-cover h operators rides presence minimums α β other .answer ≡ board-own-cover h operators rides presence minimums α β marks .answer
@@ -408,15 +408,8 @@ pub record CrowdCoverLaws (h : Head) (operators rides presence : List ℕ) (t : 
   pub core : board-crowd-cover h operators rides presence t guests marks .answer .code ≡ 0 →
       IsCore (counting-graph h operators rides presence) (present presence) (board-crowd-limits t guests .alpha) (board-crowd-limits t guests .beta)
       (board-crowd-cover h operators rides presence t guests marks)
-  -- refused, it leaves the marks, and its counts are 0
-  pub kept : board-crowd-cover h operators rides presence t guests marks .answer .code ≢ 0 →
-      board-crowd-cover h operators rides presence t guests marks .marks ≡ marks
-  pub no-operators : board-crowd-cover h operators rides presence t guests marks .answer .code ≢ 0 →
-      board-crowd-cover h operators rides presence t guests marks .answer .operators ≡ 0
-  pub no-rides : board-crowd-cover h operators rides presence t guests marks .answer .code ≢ 0 →
-      board-crowd-cover h operators rides presence t guests marks .answer .rides ≡ 0
-  -- places past operators + rides stay
-  pub behind : drop (mark-places h) (board-crowd-cover h operators rides presence t guests marks .marks) ≡ drop (mark-places h) marks
+  -- refused, it leaves the marks, and its counts are 0; places past operators + rides stay
+  pub keeps : Keeps h marks (board-crowd-cover h operators rides presence t guests marks)
   -- the marks that come in aren't read
   pub any-answer : (other : List ℕ) → length other ≡ length marks →
       board-crowd-cover h operators rides presence t guests other .answer ≡ board-crowd-cover h operators rides presence t guests marks .answer

@@ -159,7 +159,7 @@ abbrev pub cover-cases : Head → List ℕ → List ℕ → List ℕ → List �
 cover-cases h operators rides presence marks =
     table-cases h (cover-short h operators rides presence marks) operators rides
 
--- 1 to 5, of what is lent to a peel, and to a cover with minimums; document 02, 2.7: a short list of minimums is 3
+-- 1 to 5, of what is lent to a peel, and to an own cover; document 02, 2.7: a short list of minimums is 3
 abbrev pub peel-cases : Head → List ℕ → List ℕ → List ℕ → List ℕ → List ℕ → List (ℕ × Bool)
 peel-cases h operators rides presence minimums marks =
     table-cases h (cover-short h operators rides presence marks || refused-3 (h .rides) minimums) operators rides
@@ -169,6 +169,6 @@ unfoldable pub peel-refusal : Head → List ℕ → List ℕ → List ℕ → Li
 peel-refusal h operators rides presence minimums marks =
     first-number (peel-cases h operators rides presence minimums marks ++ (12, refused-12 h marks) ∷ [])
 
--- cover with minimums: 1 to 5
+-- own cover: 1 to 5
 unfoldable pub own-cover-refusal : Head → List ℕ → List ℕ → List ℕ → List ℕ → List ℕ → ℕ
 own-cover-refusal h operators rides presence minimums marks = first-number (peel-cases h operators rides presence minimums marks)

@@ -11,11 +11,10 @@ use Rattle.model.specs.Layout.{mark-places}
 use Rattle.model.specs.Refusal.{first-number, peel-cases, own-cover-refusal}
 use Rattle.model.specs.Calls.{QueryOutcome, shown, present-cover, board-own-cover}
 use Rattle.model.specs.Outcome.{queried}
-use Rattle.model.proofs.Refusal.{peel-lent}
 use Rattle.model.proofs.PresentCover.{call-not-shown}
 use Rattle.model.proofs.OwnCover.{own-taken, own-refused}
 use Rattle.pairs.specs.Accepted.{AcceptedPairs}
-use Rattle.peel_refusals.proofs.Chain.{lent-pairs}
+use Rattle.peel_refusals.proofs.Chain.{lent-accepted}
 
 -- `lent_number` gives k
 module _ (h : Head) (operators rides presence minimums : List ℕ) (marks : List ℕ) (k : ℕ) (lent : k ≡ first-number (peel-cases h operators rides presence minimums marks)) where
@@ -24,9 +23,7 @@ module _ (h : Head) (operators rides presence minimums : List ℕ) (marks : List
   the-number = sym lent
 
   pub accepted : k ≡ 0 → AcceptedPairs h operators rides × (mark-places h ≤ length presence) × (h .rides ≤ length minimums) × (mark-places h ≤ length marks)
-  accepted z =
-      let l = peel-lent h operators rides presence minimums marks [] (sym lent ∙ z) in
-      (lent-pairs h operators rides presence marks (l .0), l .0 .presence-long, l .1, l .0 .marks-long)
+  accepted z = lent-accepted h operators rides presence minimums marks [] (sym lent ∙ z)
 
   module _ (α β : ℕ) where
     abbrev outcome : QueryOutcome

@@ -2,7 +2,7 @@
 use mathlib.Core.Path.{_≡_, sym, ap, _∙_, subst}
 use mathlib.Core.Logic.{_≢_}
 use mathlib.Core.Bool.{Bool, true, false, _||_}
-use mathlib.Core.List.{List, [], _∷_}
+use mathlib.Core.List.{List, [], _∷_, _++_}
 use Prim.Native.Nat.{ℕ, _≤_, _<_}
 use native.Mathlib.Omega.{arith}
 use lib.Dec.{T, ltb, lt→ltb}
@@ -14,7 +14,7 @@ use Rattle.model.specs.Layout.{pair-places, mark-places}
 use Rattle.model.specs.Refusal.{refused-3, refused-12, first-number, table-cases, cover-short, peel-cases, peel-refusal}
 use Rattle.model.proofs.Count.{test-true, test-false, some-holds, some-witness, or-left, or-right}
 use Rattle.model.proofs.Chain.{first-nil, first-here, first-skip, enough, not-less}
-use Rattle.model.proofs.Refusal.{CoverLent, peel-lent}
+use Rattle.model.proofs.Refusal.{peel-lent}
 use Rattle.pairs.specs.Accepted.{AcceptedPairs}
 use Rattle.refusals.proofs.Chain.{table-first, table-rest}
 
@@ -31,16 +31,19 @@ cover-long h operators rides presence marks n =
       enough (length rides) (pair-places h) (λ t. n (or-left (o || r || p) m (or-left (o || r) p (or-right o r t)))),
     )
 
--- the pairs that a cover or a peel is lent, where 1 to 5 don't apply
-pub lent-pairs : (h : Head) (operators rides presence marks : List ℕ) → CoverLent h operators rides presence marks → AcceptedPairs h operators rides
-lent-pairs h operators rides presence marks l =
-    record {
+-- what a cover or a peel is lent, where 1 to 5 don't apply
+pub lent-accepted : (h : Head) (operators rides presence minimums marks : List ℕ) (cs : List (ℕ × Bool)) → first-number (peel-cases h operators rides presence minimums marks ++ cs) ≡ 0 → AcceptedPairs h operators rides × (mark-places h ≤ length presence) × (h .rides ≤ length minimums) × (mark-places h ≤ length marks)
+lent-accepted h operators rides presence minimums marks cs e =
+    let p = peel-lent h operators rides presence minimums marks cs e in
+    let l = p .0 in
+    let pairs : AcceptedPairs h operators rides = record {
       few-operators = l .few-operators;
       few-rides = l .few-rides;
       operators-long = omega (arith, l .pairs-few, l .operators-long);
       rides-long = omega (arith, l .pairs-few, l .rides-long);
       ordered = l .ordered;
-    }
+    } in
+    (pairs, l .presence-long, p .1, l .marks-long)
 
 module _ (h : Head) (operators rides presence minimums marks : List ℕ) where
   -- 3 of a peel
@@ -80,7 +83,7 @@ module _ (h : Head) (operators rides presence minimums marks : List ℕ) where
 
       -- the marks are long enough
       pub marks-long : mark-places h ≤ length marks
-      marks-long = peel-lent h operators rides presence minimums marks [] (sym table ∙ z) .0 .marks-long
+      marks-long = lent-accepted h operators rides presence minimums marks [] (sym table ∙ z) .3
 
 -- ---- 3 of a cover, and 12 of a peel
 

@@ -9,10 +9,9 @@ use Rattle.model.specs.declared.Peeled.{Peeled}
 use Rattle.model.specs.Layout.{mark-places, counting-graph}
 use Rattle.model.specs.Refusal.{refused-12, peel-refusal}
 use Rattle.model.specs.Calls.{peeled, peel-limits, board-peel}
-use Rattle.model.proofs.Refusal.{peel-lent}
 use Rattle.pairs.specs.Accepted.{AcceptedPairs}
 use Rattle.pair_peels.specs.Peel.{Gives}
-use Rattle.peel_refusals.proofs.Chain.{lent-pairs}
+use Rattle.peel_refusals.proofs.Chain.{lent-accepted}
 use Rattle.model.specs.Outcome.{peel-left}
 
 module _ (h : Head) (operators rides presence minimums marks : List ℕ) where
@@ -30,6 +29,4 @@ module _ (h : Head) (operators rides presence minimums marks : List ℕ) where
     -- what the numbers that don't apply say
     pub peel-accepted : AcceptedPairs h operators rides × (mark-places h ≤ length presence) × (h .rides ≤ length minimums) × (mark-places h ≤ length marks)
     unfolding peel-refusal
-    peel-accepted =
-        let l = peel-lent h operators rides presence minimums marks ((12, refused-12 h marks) ∷ []) none in
-        (lent-pairs h operators rides presence marks (l .0), l .0 .presence-long, l .1, l .0 .marks-long)
+    peel-accepted = lent-accepted h operators rides presence minimums marks ((12, refused-12 h marks) ∷ []) none

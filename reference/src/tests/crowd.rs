@@ -25,12 +25,6 @@ fn covered(board: &Store, bands: &Bands, guests: u16, word: u16) -> (Counts, Vec
     (counts, marks)
 }
 
-/// What a crowd cover gives where these marks of the board of document 01 are its cover.
-fn shown(marks: &Words, word: u16) -> (Counts, Vec<u16>) {
-    let counts = Counts { code: 0, operators: marks[..4].iter().sum(), rides: marks[4..].iter().sum() };
-    (counts, [&marks[..], &[word; 2]].concat())
-}
-
 /// What a refused crowd cover gives.
 fn not_shown(code: u16, marks: usize, word: u16) -> (Counts, Vec<u16>) {
     (Counts { code, operators: 0, rides: 0 }, vec![word; marks])
@@ -46,7 +40,7 @@ fn look_ups_and_covers() {
             assert_eq!(crowd_limits(bands, guests), CrowdLimits { code: 0, alpha, beta });
             // The marks that come in aren't read.
             for word in [0, 1, 7, 65_535] {
-                assert_eq!(covered(&board, bands, guests, word), shown(&marks, word));
+                assert_eq!(covered(&board, bands, guests, word), shown(board.head, &marks, word));
             }
         }
     }
@@ -59,9 +53,7 @@ fn crowd_covers_from_0() {
         let mut board = Store::new(sample.operators, sample.rides, sample.pairs);
         assert_eq!(board.build(1), 0);
         let bands = one_band(sample.alpha, sample.beta);
-        let [operators, rides] = sample.counts();
-        let marks = [sample.marks, &[7; 2]].concat();
-        assert_eq!(covered(&board, &bands, 20_000, 7), (Counts { code: 0, operators, rides }, marks));
+        assert_eq!(covered(&board, &bands, 20_000, 7), shown(board.head, sample.marks, 7));
     }
 }
 
@@ -69,7 +61,8 @@ fn crowd_covers_from_0() {
 fn crowd_covers_of_the_absent() {
     for &(words, guests, marks) in CROWD_COVERS {
         for word in [0, 1, 7] {
-            assert_eq!(covered(&with_presence(&words), &FIVE, guests, word), shown(&marks, word));
+            let board = with_presence(&words);
+            assert_eq!(covered(&board, &FIVE, guests, word), shown(board.head, &marks, word));
         }
     }
 }
@@ -221,13 +214,7 @@ fn numbers_of_random_tables() {
 fn crowd_covers_are_covers() {
     for (n, m) in [(0, 0), (0, 2), (2, 0), (2, 2), (1, 3), (3, 2)] {
         // Those who are off or out, as bits.
-        let absences = [0, 1, 1 << n, 1 << 1 | 1 << n];
-        for (table, absence) in (0..1u32 << (n * m)).flat_map(|table| absences.map(move |set: u32| (table, set))) {
-            let places = (0..n * m).filter(|place| table >> place & 1 == 1);
-            let pairs: Vec<(u16, u16)> = places.map(|place| ((place / m) as u16, (place % m) as u16)).collect();
-            let mut board = Store::new(n as u16, m as u16, &pairs);
-            assert_eq!(board.build(1), 0);
-            (0..n + m).filter(|node| absence >> node & 1 == 1).for_each(|node| absent(&mut board, node));
+        for (board, _) in boards(n, m, &[0, 1, 1 << n, 1 << 1 | 1 << n]) {
             for (alpha, beta) in (0..m as u16 + 2).flat_map(|alpha| (0..n as u16 + 2).map(move |beta| (alpha, beta))) {
                 // The bands on both sides have other limits.
                 let band = |first, last, alpha, beta| Band { first, last, alpha, beta };

@@ -16,13 +16,6 @@ fn covered(board: &Store, minimums: &[u16], (alpha, beta): (u16, u16), word: u16
     (counts, marks)
 }
 
-/// What a cover gives that marks these, where the two marks behind came in as this word.
-fn shown(head: Head, marks: &[u16], word: u16) -> (Counts, Vec<u16>) {
-    let (operators, rides) = marks.split_at(head.operators as usize);
-    let counts = Counts { code: 0, operators: operators.iter().sum(), rides: rides.iter().sum() };
-    (counts, [marks, &[word; 2]].concat())
-}
-
 /// A list, and the same with words past the rides.
 fn lists(minimums: &[u16]) -> [Vec<u16>; 4] {
     [&[][..], &[0, 0], &[1, 65_535], &[7; 60]].map(|past| [minimums, past].concat())
@@ -34,13 +27,11 @@ fn covers_with_minimums() {
         let mut board = Store::new(sample.operators, sample.rides, sample.pairs);
         assert_eq!(board.build(1), 0);
         board.parts.presence[..sample.presence.len()].copy_from_slice(sample.presence);
-        let [operators, rides] = sample.counts();
         for minimums in lists(sample.minimums) {
             // The marks that come in aren't read.
             for word in [0, 1, 7, 65_535] {
-                let (counts, marks) = covered(&board, &minimums, sample.limits, word);
-                assert_eq!(counts, Counts { code: 0, operators, rides });
-                assert_eq!(marks, [sample.marks, &[word; 2]].concat());
+                let expected = shown(board.head, sample.marks, word);
+                assert_eq!(covered(&board, &minimums, sample.limits, word), expected);
             }
             let mut marks = vec![1; sample.marks.len()];
             let peeled = board.peel_with(&minimums, &mut marks, sample.limits, 65_535);
@@ -107,19 +98,6 @@ fn numbers_beside_short_minimums() {
     }
 }
 
-/// The boards of every table of so many operators and rides, with each of these sets off or out, as bits.
-fn boards(n: usize, m: usize, absences: &[u32]) -> Vec<(Store, u32)> {
-    let of_table = |table: u32, absence: u32| {
-        let places = (0..n * m).filter(|place| table >> place & 1 == 1);
-        let pairs: Vec<(u16, u16)> = places.map(|place| ((place / m) as u16, (place % m) as u16)).collect();
-        let mut board = Store::new(n as u16, m as u16, &pairs);
-        assert_eq!(board.build(1), 0);
-        (0..n + m).filter(|node| absence >> node & 1 == 1).for_each(|node| absent(&mut board, node));
-        (board, absence)
-    };
-    (0..1 << (n * m)).flat_map(|table| absences.iter().map(move |&absence| of_table(table, absence))).collect()
-}
-
 /// Every list of so many words, each one of these.
 fn words_of(count: usize, these: &[u16]) -> Vec<Vec<u16>> {
     (0..count).fold(vec![vec![]], |lists, _| {
@@ -127,9 +105,7 @@ fn words_of(count: usize, these: &[u16]) -> Vec<Vec<u16>> {
     })
 }
 
-/// Definition 2.1 with a limit for each ride, over every set of every small table: inside any marks there is a largest set
-/// that meets the limits, and a peel settles on it. From all ones it is what a cover marks. A ride's limit is its own
-/// minimum where that isn't 0, and beta elsewhere.
+/// On every small table the largest set from all ones is what a cover with minimums marks.
 #[test]
 fn cover_is_the_largest_with_minimums() {
     for (n, m, these) in [
@@ -144,34 +120,13 @@ fn cover_is_the_largest_with_minimums() {
         (3, 2, &[0, 1, 2, 3]),
     ] {
         let absences = if n + m < 5 { vec![0, 1, 1 << n, (1 << (n + m)) - 1] } else { vec![0, 1 << 1 | 1 << n] };
-        let marks = |set: u32| (0..n + m).map(|node| (set >> node & 1) as u16).collect::<Vec<u16>>();
-        for (board, absence) in boards(n, m, &absences) {
-            let pairs = listed(board.head, &board.parts.operators, &board.parts.rides);
-            let at = |o: usize, r: usize| pairs.contains(&(o as u16, r as u16));
-            for ((alpha, beta), minimums) in (0..=m + 1)
-                .flat_map(|alpha| [0, 1, n].map(|beta| (alpha, beta)))
+        for board in boards(n, m, &absences) {
+            for ((alpha, beta), minimums) in (0..=m as u16 + 1)
+                .flat_map(|alpha| [0, 1, n as u16].map(|beta| (alpha, beta)))
                 .flat_map(|limits| words_of(m, these).into_iter().map(move |minimums| (limits, minimums)))
             {
-                let limit = |r: usize| if minimums[r] == 0 { beta } else { minimums[r] as usize };
-                // Whoever meets a limit is on or in, and so are all that it is counted with.
-                let meets = |set: &u32| {
-                    let has = |node: usize| set >> node & 1 == 1;
-                    set & absence == 0
-                        && (0..n).all(|o| !has(o) || (0..m).filter(|&r| has(n + r) && at(o, r)).count() >= alpha)
-                        && (0..m).all(|r| !has(n + r) || (0..n).filter(|&o| has(o) && at(o, r)).count() >= limit(r))
-                };
-                let limits = (alpha as u16, beta as u16);
-                let sets: Vec<u32> = (0..1 << (n + m)).filter(meets).collect();
-                for came in 0..1u32 << (n + m) {
-                    let largest = sets.iter().filter(|&set| set & !came == 0).fold(0, |all, set| all | set);
-                    assert!(meets(&largest));
-                    let mut left = marks(came);
-                    let steps = came.count_ones() as u16 - largest.count_ones() as u16;
-                    let peeled = board.peel_with(&minimums, &mut left, limits, 65_535);
-                    assert_eq!((peeled, left), (Peeled { code: 0, settled: 1, steps }, marks(largest)));
-                }
-                let largest = marks(sets.iter().fold(0, |all, set| all | set));
-                assert_eq!(covered(&board, &minimums, limits, 7), shown(board.head, &largest, 7));
+                let largest = largest(&board, &minimums, (alpha, beta));
+                assert_eq!(covered(&board.0, &minimums, (alpha, beta), 7), shown(board.0.head, &largest, 7));
             }
         }
     }
