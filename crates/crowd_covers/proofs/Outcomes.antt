@@ -17,14 +17,14 @@ use Rattle.model.specs.Graph.{limits, own-limits}
 use Rattle.model.specs.Layout.{mark-places}
 use Rattle.model.specs.Refusal.{refused-1, refused-2, refused-3, first-number, table-cases, cover-short, cover-cases, peel-cases}
 use Rattle.model.specs.Calls.{QueryOutcome, shown, present-cover}
-use Rattle.model.specs.Crowd.{board-crowd-limits, band-limits, crowd-cover-refusal, board-crowd-cover}
+use Rattle.model.specs.Crowd.{board-crowd-limits, crowd-cover-refusal, board-crowd-cover}
 use Rattle.model.specs.Outcome.{queried}
 use Rattle.model.proofs.Count.{by-test}
 use Rattle.model.proofs.Chain.{first-here, first-skip}
 use Rattle.model.proofs.Cover.{ride-none, own-one}
 use Rattle.model.proofs.CrowdTable.{limits-taken, code-refusal}
 use Rattle.model.proofs.PresentCover.{present-cover-same, call-not-shown}
-use Rattle.model.proofs.CrowdCover.{cover-taken, cover-refused, number-front, number-behind}
+use Rattle.model.proofs.CrowdCover.{cover-call, number-front, number-behind}
 use Rattle.pairs.specs.Accepted.{AcceptedPairs}
 use Rattle.peel_refusals.proofs.Chain.{lent-accepted}
 use Rattle.bands.specs.declared.Found.{Found}
@@ -69,7 +69,7 @@ module _ (h : Head) (operators rides presence : List ℕ) (t : Bands) (guests : 
   checked = lent ∙ zeros-cases h operators rides presence marks
 
   refused : (j : ℕ) → j ≢ 0 → number ≡ j → (r : Counts) → r ≡ record { code = j; operators = 0; rides = 0 } → queried r marks ≡ outcome
-  refused = call-not-shown h operators rides presence (band-limits h t guests) marks number outcome (cover-taken h operators rides presence t guests marks) (cover-refused h operators rides presence t guests marks)
+  refused = call-not-shown (cover-call h operators rides presence t guests marks)
 
   pub refused-board : k ≢ 0 → (r : Counts) → r ≡ record { code = k; operators = 0; rides = 0 } → queried r marks ≡ outcome
   refused-board n = refused k n (number-front h operators rides presence t guests marks (λ z. n (checked ∙ z)) ∙ sym checked)
@@ -92,4 +92,4 @@ module _ (h : Head) (operators rides presence : List ℕ) (t : Bands) (guests : 
           is ∙
           ap (λ (s : List ℕ). shown h s marks) (zeros-cover h operators rides presence (f .alpha) (f .beta) (accepted .0 .few-rides)) ∙
           ap₂ (λ (α β : ℕ). shown h (present-cover h operators rides presence (limits (h .operators) α β)) marks) (ap (λ (x : CrowdLimits). x .alpha) l) (ap (λ (x : CrowdLimits). x .beta) l) ∙
-          sym (cover-taken h operators rides presence t guests marks (the-number ∙ e))
+          sym (cover-call h operators rides presence t guests marks .taken (the-number ∙ e))

@@ -3,7 +3,7 @@ use mathlib.Core.Path.{_≡_, refl, sym, ap, _∙_, subst}
 use mathlib.Core.Logic.{_≢_}
 use mathlib.Core.Bool.{Bool}
 use mathlib.Core.List.{List, [], _++_}
-use Prim.Native.Nat.{ℕ, suc}
+use Prim.Native.Nat.{ℕ}
 use native.Mathlib.Omega.{arith}
 use lib.ListN.{length}
 use Rattle.model.specs.declared.Head.{Head}
@@ -12,14 +12,14 @@ use Rattle.model.specs.declared.CrowdLimits.{CrowdLimits}
 use Rattle.model.specs.Graph.{Graph, present, index-of}
 use Rattle.model.specs.Layout.{listed, counting-graph}
 use Rattle.model.specs.Refusal.{first-number, table-cases, cover-short, cover-cases}
-use Rattle.model.specs.Calls.{QueryOutcome, shown, not-shown, board-query, present-cover}
+use Rattle.model.specs.Calls.{QueryOutcome, shown, board-query}
 use Rattle.model.specs.Crowd.{crowd-cases, crowd-refusal, band-for, board-crowd-limits, band-limits, crowd-cover-refusal, board-crowd-cover}
 use Rattle.model.specs.Demand.{IsCore, CrowdCoverLaws}
 use Rattle.model.proofs.Chain.{Positive, first-front, first-behind, first-split}
 use Rattle.model.proofs.Refusal.{cover-lent}
 use Rattle.model.proofs.CrowdTable.{limits-code, limits-taken}
 use Rattle.model.proofs.EndToEnd.{query-shown}
-use Rattle.model.proofs.PresentCover.{query-cover, short-length, call-code, code-number, call-under, call-keeps, call-answer}
+use Rattle.model.proofs.PresentCover.{query-cover, short-length, ShowsCover, call-code, code-number, call-under, call-keeps, call-answer}
 
 positive-cover : (h : Head) (operators rides presence marks : List ℕ) → Positive (cover-cases h operators rides presence marks)
 positive-cover h operators rides presence marks = (omega arith, (omega arith, (omega arith, (omega arith, (omega arith, tt)))))
@@ -34,16 +34,12 @@ module _ (h : Head) (operators rides presence : List ℕ) (t : Bands) (guests : 
   abbrev cases : List (ℕ × Bool)
   cases = cover-cases h operators rides presence marks
 
-  pub cover-taken : number ≡ 0 → outcome ≡ shown h (present-cover h operators rides presence (band-limits h t guests)) marks
+  pub cover-call : ShowsCover h operators rides presence (band-limits h t guests) marks number outcome
   unfolding board-crowd-cover
-  cover-taken e = rw (e, board-crowd-cover)
-
-  pub cover-refused : (k : ℕ) → number ≡ suc k → outcome ≡ not-shown (suc k) marks
-  unfolding board-crowd-cover
-  cover-refused k e = rw (e, board-crowd-cover)
+  cover-call = record { taken = λ e. rw (e, board-crowd-cover); refused = λ k e. rw (e, board-crowd-cover) }
 
   pub cover-code : (k : ℕ) → number ≡ k → outcome .answer .code ≡ k
-  cover-code = call-code h operators rides presence (band-limits h t guests) marks number outcome cover-taken cover-refused
+  cover-code = call-code cover-call
 
   pub number-front : first-number cases ≢ 0 → number ≡ first-number cases
   unfolding crowd-cover-refusal
@@ -61,7 +57,7 @@ module _ (h : Head) (operators rides presence : List ℕ) (t : Bands) (guests : 
   taken-core : number ≡ 0 → IsCore (counting-graph h operators rides presence) (present presence) (board-crowd-limits t guests .alpha) (board-crowd-limits t guests .beta) outcome
   taken-core e =
       subst (λ (l : CrowdLimits). IsCore (counting-graph h operators rides presence) (present presence) (l .alpha) (l .beta) outcome) (sym (limits-taken t guests (number-split e .1)))
-      (call-under h operators rides presence (band-limits h t guests) marks number outcome cover-taken cover-refused e)
+      (call-under cover-call e)
 
   -- and a query for them on an index of the same pairs gives the same
   taken-query : (more : List ℕ) → number ≡ 0 → board-query h (index-of (counting-graph h operators rides presence) ++ more) presence (board-crowd-limits t guests .alpha) (board-crowd-limits t guests .beta) marks ≡ outcome
@@ -73,7 +69,7 @@ module _ (h : Head) (operators rides presence : List ℕ) (t : Bands) (guests : 
       ap (λ (l : CrowdLimits). board-query h (index-of g ++ more) presence (l .alpha) (l .beta) marks) (limits-taken t guests (number-split e .1)) ∙
       query-shown h (listed (h .pairs) operators rides) presence more α β marks (lent .few-operators) (lent .few-rides) (lent .presence-long) (lent .marks-long) ∙
       ap (λ (s : List ℕ). shown h s marks) (query-cover h operators rides presence α β) ∙
-      sym (cover-taken e)
+      sym (cover-call .taken e)
 
 number-length : (h : Head) (operators rides presence : List ℕ) (t : Bands) (guests : ℕ) (marks other : List ℕ) → length other ≡ length marks → crowd-cover-refusal h operators rides presence t guests other ≡ crowd-cover-refusal h operators rides presence t guests marks
 unfolding crowd-cover-refusal
@@ -82,25 +78,17 @@ number-length h operators rides presence t guests marks other e =
 
 any-marks : (h : Head) (operators rides presence : List ℕ) (t : Bands) (guests : ℕ) (marks other : List ℕ) → length other ≡ length marks → board-crowd-cover h operators rides presence t guests other .answer ≡ board-crowd-cover h operators rides presence t guests marks .answer
 any-marks h operators rides presence t guests marks other e =
-    let number : List ℕ → ℕ = crowd-cover-refusal h operators rides presence t guests in
-    let taken = cover-taken h operators rides presence t guests in
-    let refused = cover-refused h operators rides presence t guests in
-    call-answer h operators rides presence (band-limits h t guests) other (number other) (board-crowd-cover h operators rides presence t guests other) (taken other) (refused other) _ (number-length h operators rides presence t guests marks other e) ∙
-    sym (call-answer h operators rides presence (band-limits h t guests) marks (number marks) (board-crowd-cover h operators rides presence t guests marks) (taken marks) (refused marks) _ refl)
+    let call = cover-call h operators rides presence t guests in
+    call-answer (call other) _ (number-length h operators rides presence t guests marks other e) ∙ sym (call-answer (call marks) _ refl)
 
 pub crowd-cover-laws : (h : Head) (operators rides presence : List ℕ) (t : Bands) (guests : ℕ) (marks : List ℕ) → CrowdCoverLaws h operators rides presence t guests marks
 crowd-cover-laws h operators rides presence t guests marks =
-    let limit : ℕ → ℕ = band-limits h t guests in
-    let number : ℕ = crowd-cover-refusal h operators rides presence t guests marks in
-    let outcome : QueryOutcome = board-crowd-cover h operators rides presence t guests marks in
-    let taken = cover-taken h operators rides presence t guests marks in
-    let refused = cover-refused h operators rides presence t guests marks in
-    let number-of = code-number h operators rides presence limit marks number outcome taken refused in
+    let call = cover-call h operators rides presence t guests marks in
     record {
       board-first = λ n. cover-code h operators rides presence t guests marks _ (number-front h operators rides presence t guests marks n);
       then-bands = λ e. cover-code h operators rides presence t guests marks _ (number-behind h operators rides presence t guests marks e) ∙ sym (limits-code t guests _ refl);
-      core = λ e. taken-core h operators rides presence t guests marks (number-of 0 e);
-      keeps = call-keeps h operators rides presence limit marks number outcome taken refused;
+      core = λ e. taken-core h operators rides presence t guests marks (code-number call 0 e);
+      keeps = call-keeps call;
       any-answer = any-marks h operators rides presence t guests marks;
-      as-query = λ more e. taken-query h operators rides presence t guests marks more (number-of 0 e);
+      as-query = λ more e. taken-query h operators rides presence t guests marks more (code-number call 0 e);
     }

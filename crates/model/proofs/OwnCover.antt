@@ -2,7 +2,7 @@
 use mathlib.Core.Path.{_≡_, refl, sym, ap, _∙_}
 use mathlib.Core.Bool.{Bool, true, false, _||_}
 use mathlib.Core.List.{List, [], _++_}
-use Prim.Native.Nat.{ℕ, suc, _+_, _-_, _≤_, _<_}
+use Prim.Native.Nat.{ℕ, _+_, _-_, _≤_, _<_}
 use native.Mathlib.Omega.{arith}
 use lib.Dec.{ltb, eqb}
 use borrow.Author.Tests.{le-ltb}
@@ -11,13 +11,13 @@ use Rattle.model.specs.declared.Head.{Head}
 use Rattle.model.specs.Graph.{Graph, limits, ride-limit, own-limits, marked, present, index-of}
 use Rattle.model.specs.Layout.{mark-places, listed, counting-graph}
 use Rattle.model.specs.Refusal.{refused-3, first-number, table-cases, cover-short, peel-refusal, own-cover-refusal}
-use Rattle.model.specs.Calls.{QueryOutcome, shown, not-shown, board-query, board-peel, present-cover, board-own-cover}
+use Rattle.model.specs.Calls.{QueryOutcome, shown, board-query, board-peel, board-own-cover}
 use Rattle.model.specs.Demand.{AllOnes, IsCoverUnder, IsCore, OwnLimitsLaws, MinimumsAll, OwnCoverLaws}
 use Rattle.model.proofs.Cover.{ride-none, ride-own, own-operator, own-ride, limits-rides, own-one, own-core}
 use Rattle.model.proofs.Peel.{peel-laws}
 use Rattle.model.proofs.Refusal.{peel-lent}
 use Rattle.model.proofs.EndToEnd.{query-shown, peel-is-cover}
-use Rattle.model.proofs.PresentCover.{present-cover-same, query-cover, short-length, call-code, code-number, call-under, call-keeps, call-answer}
+use Rattle.model.proofs.PresentCover.{present-cover-same, query-cover, short-length, ShowsCover, call-code, code-number, call-under, call-keeps, call-answer}
 
 -- ---- the limits
 
@@ -56,22 +56,18 @@ module _ (h : Head) (operators rides presence minimums : List ℕ) (α β : ℕ)
   abbrev g : Graph
   g = counting-graph h operators rides presence
 
-  pub own-taken : number ≡ 0 → outcome ≡ shown h (present-cover h operators rides presence limit) marks
+  pub own-call : ShowsCover h operators rides presence limit marks number outcome
   unfolding board-own-cover
-  own-taken e = rw (e, board-own-cover)
-
-  pub own-refused : (k : ℕ) → number ≡ suc k → outcome ≡ not-shown (suc k) marks
-  unfolding board-own-cover
-  own-refused k e = rw (e, board-own-cover)
+  own-call = record { taken = λ e. rw (e, board-own-cover); refused = λ k e. rw (e, board-own-cover) }
 
   pub own-code : (k : ℕ) → number ≡ k → outcome .answer .code ≡ k
-  own-code = call-code h operators rides presence limit marks number outcome own-taken own-refused
+  own-code = call-code own-call
 
   number-of : outcome .answer .code ≡ 0 → number ≡ 0
-  number-of = code-number h operators rides presence limit marks number outcome own-taken own-refused 0
+  number-of = code-number own-call 0
 
   under : outcome .answer .code ≡ 0 → IsCoverUnder g (present presence) limit outcome
-  under e = call-under h operators rides presence limit marks number outcome own-taken own-refused (number-of e)
+  under e = call-under own-call (number-of e)
 
   -- where every ride has the limit b, it is the core for (α, b)
   one-core : (b : ℕ) → ((v : ℕ) → v < h .rides → ride-limit minimums β v ≡ b) → outcome .answer .code ≡ 0 → IsCore g (present presence) α b outcome
@@ -90,7 +86,7 @@ module _ (h : Head) (operators rides presence minimums : List ℕ) (α β : ℕ)
       let lent = peel-lent h operators rides presence minimums marks [] (number-of e) .0 in
       query-shown h (listed (h .pairs) operators rides) presence more α β marks (lent .few-operators) (lent .few-rides) (lent .presence-long) (lent .marks-long) ∙
       ap (λ (s : List ℕ). shown h s marks) (query-cover h operators rides presence α β ∙ sym (present-cover-same h operators rides presence limit (limits (h .operators) α β) (own-one (h .operators) (h .rides) minimums α β β (λ v l. ride-none minimums β v (zeros v l))))) ∙
-      sym (own-taken (number-of e))
+      sym (own-call .taken (number-of e))
 
 -- words behind the rides' minimums change nothing
 behind-same : (h : Head) (operators rides presence minimums : List ℕ) (α β : ℕ) (marks more : List ℕ) → board-own-cover h operators rides presence minimums α β marks .answer .code ≡ 0 → board-own-cover h operators rides presence (minimums ++ more) α β marks ≡ board-own-cover h operators rides presence minimums α β marks
@@ -100,9 +96,9 @@ behind-same h operators rides presence minimums α β marks more e =
     let long = peel-lent h operators rides presence minimums marks [] none .1 in
     let s : Bool = cover-short h operators rides presence marks in
     let more-long : ltb (length (minimums ++ more)) (h .rides) ≡ ltb (length minimums) (h .rides) = le-ltb (length (minimums ++ more)) (h .rides) (omega (arith, length-append minimums more)) ∙ sym (le-ltb (length minimums) (h .rides) long) in
-    own-taken h operators rides presence (minimums ++ more) α β marks (ap (λ (b : Bool). first-number (table-cases h (s || b) operators rides)) more-long ∙ none) ∙
+    own-call h operators rides presence (minimums ++ more) α β marks .taken (ap (λ (b : Bool). first-number (table-cases h (s || b) operators rides)) more-long ∙ none) ∙
     ap (λ (c : List ℕ). shown h c marks) (present-cover-same h operators rides presence (own-limits (h .operators) (minimums ++ more) α β) (own-limits (h .operators) minimums α β) (behind-limits (h .operators) (h .rides) minimums more α β long)) ∙
-    sym (own-taken h operators rides presence minimums α β marks none)
+    sym (own-call h operators rides presence minimums α β marks .taken none)
 
 number-length : (h : Head) (operators rides presence minimums marks other : List ℕ) → length other ≡ length marks → own-cover-refusal h operators rides presence minimums other ≡ own-cover-refusal h operators rides presence minimums marks
 unfolding own-cover-refusal
@@ -111,21 +107,12 @@ number-length h operators rides presence minimums marks other e =
 
 any-marks : (h : Head) (operators rides presence minimums : List ℕ) (α β : ℕ) (marks other : List ℕ) → length other ≡ length marks → board-own-cover h operators rides presence minimums α β other .answer ≡ board-own-cover h operators rides presence minimums α β marks .answer
 any-marks h operators rides presence minimums α β marks other e =
-    let limit : ℕ → ℕ = own-limits (h .operators) minimums α β in
-    let number : List ℕ → ℕ = own-cover-refusal h operators rides presence minimums in
-    let taken = own-taken h operators rides presence minimums α β in
-    let refused = own-refused h operators rides presence minimums α β in
-    call-answer h operators rides presence limit other (number other) (board-own-cover h operators rides presence minimums α β other) (taken other) (refused other) _ (number-length h operators rides presence minimums marks other e) ∙
-    sym (call-answer h operators rides presence limit marks (number marks) (board-own-cover h operators rides presence minimums α β marks) (taken marks) (refused marks) _ refl)
+    let call = own-call h operators rides presence minimums α β in
+    call-answer (call other) _ (number-length h operators rides presence minimums marks other e) ∙ sym (call-answer (call marks) _ refl)
 
 pub own-cover-laws : (h : Head) (operators rides presence minimums : List ℕ) (α β : ℕ) (marks : List ℕ) → OwnCoverLaws h operators rides presence minimums α β marks
 unfolding own-cover-refusal
 own-cover-laws h operators rides presence minimums α β marks =
-    let limit : ℕ → ℕ = own-limits (h .operators) minimums α β in
-    let number : ℕ = own-cover-refusal h operators rides presence minimums marks in
-    let outcome : QueryOutcome = board-own-cover h operators rides presence minimums α β marks in
-    let taken = own-taken h operators rides presence minimums α β marks in
-    let refused = own-refused h operators rides presence minimums α β marks in
     record {
       number = own-code h operators rides presence minimums α β marks _ refl;
       own = under h operators rides presence minimums α β marks;
@@ -133,7 +120,7 @@ own-cover-laws h operators rides presence minimums α β marks =
       all-equal = λ m l all. one-core h operators rides presence minimums α β marks m (λ v k. ride-own minimums β v m l (all v k));
       all-zero = λ all. one-core h operators rides presence minimums α β marks β (λ v k. ride-none minimums β v (all v k));
       as-query = queried-same h operators rides presence minimums α β marks;
-      keeps = call-keeps h operators rides presence limit marks number outcome taken refused;
+      keeps = call-keeps (own-call h operators rides presence minimums α β marks);
       any-answer = any-marks h operators rides presence minimums α β marks;
       any-behind = behind-same h operators rides presence minimums α β marks;
     }

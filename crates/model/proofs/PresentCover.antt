@@ -74,14 +74,19 @@ short-length h operators rides presence marks other e =
     let o : Bool = refused-3 (pair-places h) operators || refused-3 (pair-places h) rides || refused-3 (mark-places h) presence in
     ap (λ (n : ℕ). o || ltb n (mark-places h)) e
 
-module _ (h : Head) (operators rides presence : List ℕ) (limit : ℕ → ℕ) (marks : List ℕ) (number : ℕ) (outcome : QueryOutcome) (taken : number ≡ 0 → outcome ≡ shown h (present-cover h operators rides presence limit) marks) (refused : (k : ℕ) → number ≡ suc k → outcome ≡ not-shown (suc k) marks) where
+-- a call with this number and outcome: it shows this cover over the marks that came in, or is refused
+pub record ShowsCover (h : Head) (operators rides presence : List ℕ) (limit : ℕ → ℕ) (marks : List ℕ) (number : ℕ) (outcome : QueryOutcome) : Type 0 where
+  pub taken : number ≡ 0 → outcome ≡ shown h (present-cover h operators rides presence limit) marks
+  pub refused : (k : ℕ) → number ≡ suc k → outcome ≡ not-shown (suc k) marks
+
+module _ {h : Head} {operators rides presence : List ℕ} {limit : ℕ → ℕ} {marks : List ℕ} {number : ℕ} {outcome : QueryOutcome} (call : ShowsCover h operators rides presence limit marks number outcome) where
   abbrev cover : List ℕ
   cover = present-cover h operators rides presence limit
 
   pub call-code : (k : ℕ) → number ≡ k → outcome .answer .code ≡ k
   unfolding counts
-  call-code zero e = ap (λ (o : QueryOutcome). o .answer .code) (taken e)
-  call-code (suc k) e = ap (λ (o : QueryOutcome). o .answer .code) (refused k e)
+  call-code zero e = ap (λ (o : QueryOutcome). o .answer .code) (call .taken e)
+  call-code (suc k) e = ap (λ (o : QueryOutcome). o .answer .code) (call .refused k e)
 
   pub code-number : (k : ℕ) → outcome .answer .code ≡ k → number ≡ k
   code-number k e = sym (call-code number refl) ∙ e
@@ -90,20 +95,20 @@ module _ (h : Head) (operators rides presence : List ℕ) (limit : ℕ → ℕ) 
   pub call-under : number ≡ 0 → IsCoverUnder (counting-graph h operators rides presence) (present presence) limit outcome
   call-under e =
       let g : Graph = counting-graph h operators rides presence in
-      subst (IsCoverUnder g (present presence) limit) (sym (taken e))
+      subst (IsCoverUnder g (present presence) limit) (sym (call .taken e))
       (shown-under h (g .cleared) (present presence) limit cover marks (present-cover-length h operators rides presence limit) (present-cover-largest h operators rides presence limit))
 
   -- with its number, a refused call leaves the marks
   pub call-not-shown : (j : ℕ) → j ≢ 0 → number ≡ j → (r : Counts) → r ≡ record { code = j; operators = 0; rides = 0 } → queried r marks ≡ outcome
   call-not-shown zero n e r is = absurd (n refl)
-  call-not-shown (suc j) n e r is = ap (λ (c : Counts). queried c marks) is ∙ sym (refused j e)
+  call-not-shown (suc j) n e r is = ap (λ (c : Counts). queried c marks) is ∙ sym (call .refused j e)
 
   refused-keeps : (P : QueryOutcome → Type 0) → ((k : ℕ) → P (not-shown (suc k) marks)) → outcome .answer .code ≢ 0 → P outcome
   refused-keeps P f n = go number refl
     where
       go : (k : ℕ) → number ≡ k → P outcome
       go zero e = absurd (n (call-code 0 e))
-      go (suc k) e = subst P (sym (refused k e)) (f k)
+      go (suc k) e = subst P (sym (call .refused k e)) (f k)
 
   past-nodes : drop (mark-places h) (outcome .marks) ≡ drop (mark-places h) marks
   past-nodes = go number refl
@@ -111,8 +116,8 @@ module _ (h : Head) (operators rides presence : List ℕ) (limit : ℕ → ℕ) 
       go : (k : ℕ) → number ≡ k → drop (mark-places h) (outcome .marks) ≡ drop (mark-places h) marks
       go zero e =
           let l = present-cover-length h operators rides presence limit in
-          ap (λ (o : QueryOutcome). drop (mark-places h) (o .marks)) (taken e) ∙ drop-at cover (drop (length cover) marks) (mark-places h) l ∙ ap (λ (k : ℕ). drop k marks) l
-      go (suc k) e = ap (λ (o : QueryOutcome). drop (mark-places h) (o .marks)) (refused k e)
+          ap (λ (o : QueryOutcome). drop (mark-places h) (o .marks)) (call .taken e) ∙ drop-at cover (drop (length cover) marks) (mark-places h) l ∙ ap (λ (k : ℕ). drop k marks) l
+      go (suc k) e = ap (λ (o : QueryOutcome). drop (mark-places h) (o .marks)) (call .refused k e)
 
   pub call-keeps : Keeps h marks outcome
   call-keeps =
@@ -129,5 +134,5 @@ module _ (h : Head) (operators rides presence : List ℕ) (limit : ℕ → ℕ) 
   answer-by (suc k) = record { code = suc k; operators = 0; rides = 0 }
 
   pub call-answer : (k : ℕ) → number ≡ k → outcome .answer ≡ answer-by k
-  call-answer zero e = ap (λ (o : QueryOutcome). o .answer) (taken e)
-  call-answer (suc k) e = ap (λ (o : QueryOutcome). o .answer) (refused k e)
+  call-answer zero e = ap (λ (o : QueryOutcome). o .answer) (call .taken e)
+  call-answer (suc k) e = ap (λ (o : QueryOutcome). o .answer) (call .refused k e)

@@ -12,7 +12,7 @@ use Rattle.model.specs.Refusal.{first-number, peel-cases, own-cover-refusal}
 use Rattle.model.specs.Calls.{QueryOutcome, shown, present-cover, board-own-cover}
 use Rattle.model.specs.Outcome.{queried}
 use Rattle.model.proofs.PresentCover.{call-not-shown}
-use Rattle.model.proofs.OwnCover.{own-taken, own-refused}
+use Rattle.model.proofs.OwnCover.{own-call}
 use Rattle.pairs.specs.Accepted.{AcceptedPairs}
 use Rattle.peel_refusals.proofs.Chain.{lent-accepted}
 
@@ -30,8 +30,7 @@ module _ (h : Head) (operators rides presence minimums : List ℕ) (marks : List
     outcome = board-own-cover h operators rides presence minimums α β marks
 
     pub refused : k ≢ 0 → (r : Counts) → r ≡ record { code = k; operators = 0; rides = 0 } → queried r marks ≡ outcome
-    refused n =
-        call-not-shown h operators rides presence (own-limits (h .operators) minimums α β) marks (own-cover-refusal h operators rides presence minimums marks) outcome (own-taken h operators rides presence minimums α β marks) (own-refused h operators rides presence minimums α β marks) k n the-number
+    refused n = call-not-shown (own-call h operators rides presence minimums α β marks) k n the-number
 
     pub found : k ≡ 0 → (o : QueryOutcome) → o ≡ shown h (present-cover h operators rides presence (own-limits (h .operators) minimums α β)) marks → o ≡ outcome
-    found z o is = is ∙ sym (own-taken h operators rides presence minimums α β marks (the-number ∙ z))
+    found z o is = is ∙ sym (own-call h operators rides presence minimums α β marks .taken (the-number ∙ z))
