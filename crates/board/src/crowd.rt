@@ -15,7 +15,8 @@ pub extern "C" fn board_crowd_limits(bands: Bands, guests: u16) -> CrowdLimits
     bands::crowd_limits(bands, guests)
 }
 
-// Marks the cover for a guest count, found from all ones under the limits of its band, and answers the counts of operators and rides marked.
+// Marks the cover for a guest count, found from all ones under the limits of its band, and answers the counts of operators and rides marked. A ride's
+// limit is its own minimum, or the band's beta where that is 0.
 #[no_mangle]
 pub extern "C" fn board_crowd_cover(
     head: Head,
@@ -24,12 +25,23 @@ pub extern "C" fn board_crowd_cover(
     presence: &[u16],
     bands: Bands,
     guests: u16,
+    minimums: &[u16],
     marks: &mut [u16],
 ) -> Counts
     ensures { λ r. ⌜
         queried r (now (marks .exit))
-        ≡ board-crowd-cover head (now (operators .entry)) (now (rides .entry)) (now (presence .entry)) bands guests (now (marks .entry))
+        ≡ board-crowd-cover head (now (operators .entry)) (now (rides .entry)) (now (presence .entry)) bands guests (now (minimums .entry))
+        (now (marks .entry))
         ⌝ }
 {
-    crowd_covers::crowd_cover(head, operators, rides, presence, bands, guests, marks)
+    crowd_covers::crowd_cover(
+        head,
+        operators,
+        rides,
+        presence,
+        bands,
+        guests,
+        minimums,
+        marks,
+    )
 }

@@ -1,4 +1,4 @@
-// The cover for a guest count: refused, or the cover of those present under the limits of its band.
+// The cover for a guest count: refused, or the cover of those present under the limits of its band, with minimums.
 ghost use mathlib.Core.Path.{_≡_};
 ghost use Rattle.model.specs.Crowd.{board-crowd-cover};
 ghost use Rattle.model.specs.Outcome.{queried};
@@ -7,7 +7,7 @@ use model::Counts;
 use model::Head;
 use present_covers::refused;
 
-// Marks the cover for a guest count, without minimums, and answers the counts of operators and rides marked.
+// Marks the cover for a guest count with minimums, and answers the counts of operators and rides marked.
 pub fn crowd_cover(
     head: Head,
     operators: &[u16],
@@ -15,15 +15,16 @@ pub fn crowd_cover(
     presence: &[u16],
     bands: Bands,
     guests: u16,
+    minimums: &[u16],
     marks: &mut [u16],
 ) -> Counts
     ensures { λ r. ⌜
         queried r (now (marks .exit))
-        ≡ board-crowd-cover head (now (operators .entry)) (now (rides .entry)) (now (presence .entry)) bands guests (now (marks .entry))
+        ≡ board-crowd-cover head (now (operators .entry)) (now (rides .entry)) (now (presence .entry)) bands guests (now (minimums .entry))
+        (now (marks .entry))
         ⌝ }
 {
-    let none = [0u16; 60];
-    let number = peel_refusals::lent_number(head, operators, rides, presence, &none, marks);
+    let number = peel_refusals::lent_number(head, operators, rides, presence, minimums, marks);
     if number != 0 {
         return refused(number);
     }
@@ -37,7 +38,7 @@ pub fn crowd_cover(
         operators,
         rides,
         presence,
-        &none,
+        minimums,
         found.alpha,
         found.beta,
         marks,

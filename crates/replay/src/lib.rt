@@ -35,7 +35,7 @@ fn call(
         );
         0
     } else if 5 < kind {
-        replay_crowds::call(frame, lent, operators, rides, presence, marks);
+        replay_crowds::call(frame, lent, operators, rides, presence, minimums, marks);
         0
     } else {
         replay_messages::call(

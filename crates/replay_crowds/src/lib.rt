@@ -39,12 +39,14 @@ fn cover(
     operators: &[u16],
     rides: &[u16],
     presence: &[u16],
+    minimums: &[u16],
     marks: &mut [u16],
 ) {
     let guests = frames::word(frame, 4);
     let o = frames::least(lent.operators, operators.len());
     let r = frames::least(lent.rides, rides.len());
     let p = frames::least(lent.presence, presence.len());
+    let n = frames::least(lent.minimums, minimums.len());
     let m = frames::least(lent.marks, marks.len());
     let counts = crowd_covers::crowd_cover(
         frames::head(frame),
@@ -53,6 +55,7 @@ fn cover(
         &presence[0..p],
         table_at(frame, 5),
         guests,
+        &minimums[0..n],
         &mut marks[0..m],
     );
     frames::print(counts.code);
@@ -67,11 +70,12 @@ pub fn call(
     operators: &[u16],
     rides: &[u16],
     presence: &[u16],
+    minimums: &[u16],
     marks: &mut [u16],
 ) {
     if frames::word(frame, 0) == 6 {
         limits(frame)
     } else {
-        cover(frame, lent, operators, rides, presence, marks)
+        cover(frame, lent, operators, rides, presence, minimums, marks)
     }
 }

@@ -63,7 +63,7 @@ fn parts_at(frame: &[u8]) -> usize {
 }
 
 // Sets the memory as the parts of a frame say. A query has no pairs, a peel and the covers have no index, and none of them has stamps or revisions,
-// of pairs or of nodes; they alone have marks. A peel and a cover with minimums alone have minimums. A look-up in a crowd table has no parts.
+// of pairs or of nodes; they alone have marks. A peel and the covers alone have minimums. A look-up in a crowd table has no parts.
 pub fn load(
     frame: &[u8],
     operators: &mut [u16; 12300],
@@ -80,8 +80,8 @@ pub fn load(
 ) -> Lent {
     let kind = frames::word(frame, 0);
     let whole = kind == 1 || kind == 4 || kind == 5;
-    let own = kind == 3 || kind == 8;
-    let marked = own || kind == 2 || kind == 7;
+    let own = kind == 3 || kind == 7 || kind == 8;
+    let marked = own || kind == 2;
     let paired = kind != 2 && kind != 6;
     let o = lent_parts::load(frame, parts_at(frame), paired, operators);
     let r = lent_parts::load(frame, o.next, paired, rides);
