@@ -12,20 +12,21 @@ use Rattle.model.specs.Graph.{Graph, nodes, limits, own-limits, marked, present
 use Rattle.model.specs.Layout.{Operators, Rides, Index, Presence, Parts, parts, Board, mark-places, listed-graph, board-graph}
 use Rattle.model.specs.Calls.{QueryOutcome, PeelOutcome, board-query, board-peel, board-own-cover}
 use Rattle.model.specs.Crowd.{board-crowd-limits, board-crowd-cover}
-use Rattle.model.specs.Demand.{IsCoverUnder, IsCore, IsPeeledCover, MinimumsAll}
+use Rattle.model.specs.Demand.{IsCoverUnder, IsCore, IsPeeledCover, MinimumsAll, MinimumsZeroOr}
 use Rattle.model.proofs.Cover.{cover-laws, cover-under-laws}
 use Rattle.model.proofs.Level.{level-laws}
 use Rattle.model.proofs.Peel.{peel-laws}
 use Rattle.model.proofs.Presence.{largest-start}
 use Rattle.model.proofs.Query.{zero-is-no-limit, query-is-core, presence-laws}
 use Rattle.model.proofs.Contents.{extend, present-extend, graph-extend, index-words}
-use Rattle.model.proofs.EndToEnd.{index-then-query, build-then-query, cover-cases-none, own-cover-none, peel-none, peel-is-largest, peel-is-cover}
+use Rattle.model.proofs.EndToEnd.{index-then-query, build-then-query, own-cover-none, peel-none, peel-is-largest, peel-is-cover}
 use Rattle.model.proofs.Preview.{preview-then-query}
 use Rattle.model.proofs.OwnCover.{own-limits-laws, own-cover-laws}
 use Rattle.model.proofs.CrowdTable.{crowd-limits-laws}
 use Rattle.model.proofs.CrowdCover.{crowd-cover-laws}
+use Rattle.delivery.specs.Calls.{run, built-board}
 use Rattle.delivery.specs.Book.{book, written}
-use Rattle.delivery.specs.Core.{CallsThenIndex, CallsThenQuery, CallsThenPeel, CallsThenOwnCover, CallsThenSame, CallsThenCrowdCover, Demand2}
+use Rattle.delivery.specs.Core.{CallsThenIndex, CallsThenQuery, CallsThenPeel, CallsThenOwnCover, CallsThenSame, CallsThenCrowdCover, CallsThenCrowdSame, Demand2}
 use Rattle.delivery.proofs.Latest.{AllValid}
 use Rattle.delivery.proofs.Run.{says, laid-written, accepted-written}
 use Rattle.delivery.proofs.Build.{table}
@@ -99,18 +100,14 @@ module _ (h : Head) (es : List Message) where
           let none = laws .number ∙ own-cover-none lent minimums marks (accepted-written h es few few′ valid behind .table) enough long in
           ap (λ (i : List ℕ). board-query (board .head) (i ++ more‴) (lent .part Presence) α β marks) (written-index behind) ∙ laws .as-query more‴ zeros none
 
-  written-crowd : h .operators ≤ 200 → h .rides ≤ 60 → AllValid h es → (marks : List ℕ) → mark-places h ≤ length marks → (more more′ more″ : List ℕ) (t : Bands) (guests : ℕ) → board-crowd-limits t guests .code ≡ 0 → IsCore (board-graph board) here (board-crowd-limits t guests .alpha) (board-crowd-limits t guests .beta) (board-crowd-cover (board .head) (board .part Operators ++ more) (board .part Rides ++ more′) (board .part Presence ++ more″) t guests marks)
+  written-crowd : h .operators ≤ 200 → h .rides ≤ 60 → (marks : List ℕ) → mark-places h ≤ length marks → AllValid h es → (more more′ more″ more‴ minimums : List ℕ) → h .rides ≤ length minimums → (t : Bands) (guests : ℕ) → board-crowd-limits t guests .code ≡ 0 → MinimumsZeroOr (h .rides) minimums (board-crowd-limits t guests .beta) → board-query (board .head) (board .part Index ++ more‴) (board .part Presence ++ more″) (board-crowd-limits t guests .alpha) (board-crowd-limits t guests .beta) marks ≡ board-crowd-cover (board .head) (board .part Operators ++ more) (board .part Rides ++ more′) (board .part Presence ++ more″) t guests minimums marks
   unfolding written
-  written-crowd few few′ valid marks long more more′ more″ t guests e =
+  written-crowd few few′ marks long valid more more′ more″ more‴ minimums enough t guests accepted zero-or =
       let behind : Parts = parts more more′ [] [] [] [] [] more″ in
       let lent : Board = extend board behind in
-      let laws = crowd-cover-laws (board .head) (lent .part Operators) (lent .part Rides) (lent .part Presence) t guests marks in
-      let none = cover-cases-none lent marks (accepted-written h es few few′ valid behind .table) long in
-      let c = laws .core (laws .then-bands none ∙ e) in
-      let α : ℕ = board-crowd-limits t guests .alpha in
-      let β : ℕ = board-crowd-limits t guests .beta in
-      subst (λ (g : Graph). IsCore g here α β (board-crowd-cover (board .head) (lent .part Operators) (lent .part Rides) (lent .part Presence) t guests marks)) (graph-extend h (says h es) behind)
-      (cover-start (board-graph lent) (present (lent .part Presence)) here (limits (h .operators) α β) _ (present-extend h (says h es) behind) c)
+      let laws = crowd-cover-laws (board .head) (lent .part Operators) (lent .part Rides) (lent .part Presence) t guests minimums marks in
+      let none = laws .then-bands (own-cover-none lent minimums marks (accepted-written h es few few′ valid behind .table) enough long) ∙ accepted in
+      ap (λ (i : List ℕ). board-query (board .head) (i ++ more‴) (lent .part Presence) (board-crowd-limits t guests .alpha) (board-crowd-limits t guests .beta) marks) (written-index behind) ∙ laws .as-query more‴ zero-or none
 
 pub calls-then-index : CallsThenIndex
 calls-then-index b start calls e =
@@ -142,10 +139,21 @@ calls-then-same b start calls more more′ more″ more‴ minimums α β marks 
     (written-same (b .head) (book (b .head) (b .part Operators) (b .part Rides) start calls) (t .few-operators) (t .few-rides) α β marks long (valid-book b start calls e) more more′ more″ minimums enough more‴ zeros)
 
 pub calls-then-crowd-cover : CallsThenCrowdCover
-calls-then-crowd-cover b start calls more more′ more″ t guests marks e long accepted =
+calls-then-crowd-cover b start calls more more′ more″ minimums t guests marks e enough long accepted =
+    let x : Board = run (built-board b start) calls in
+    let α : ℕ = board-crowd-limits t guests .alpha in
+    let β : ℕ = board-crowd-limits t guests .beta in
+    subst (IsCoverUnder (board-graph x) (present (x .part Presence)) (own-limits (b .head .operators) minimums α β))
+    (sym (crowd-cover-laws (x .head) (x .part Operators ++ more) (x .part Rides ++ more′) (x .part Presence ++ more″) t guests minimums marks .as-own accepted))
+    (calls-then-own-cover b start calls more more′ more″ minimums α β marks e enough long)
+
+pub calls-then-crowd-same : CallsThenCrowdSame
+calls-then-crowd-same b start calls more more′ more″ more‴ minimums t guests marks e enough long accepted zero-or =
     let w = table b start e in
-    subst (λ (x : Board). IsCore (board-graph x) (present (x .part Presence)) (board-crowd-limits t guests .alpha) (board-crowd-limits t guests .beta) (board-crowd-cover (x .head) (x .part Operators ++ more) (x .part Rides ++ more′) (x .part Presence ++ more″) t guests marks)) (sym (board-is-book b start calls e))
-    (written-crowd (b .head) (book (b .head) (b .part Operators) (b .part Rides) start calls) (w .few-operators) (w .few-rides) (valid-book b start calls e) marks long more more′ more″ t guests accepted)
+    let α : ℕ = board-crowd-limits t guests .alpha in
+    let β : ℕ = board-crowd-limits t guests .beta in
+    subst (λ (x : Board). board-query (x .head) (x .part Index ++ more‴) (x .part Presence ++ more″) α β marks ≡ board-crowd-cover (x .head) (x .part Operators ++ more) (x .part Rides ++ more′) (x .part Presence ++ more″) t guests minimums marks) (sym (board-is-book b start calls e))
+    (written-crowd (b .head) (book (b .head) (b .part Operators) (b .part Rides) start calls) (w .few-operators) (w .few-rides) marks long (valid-book b start calls e) more more′ more″ more‴ minimums enough t guests accepted zero-or)
 
 pub demand-2 : Demand2
 demand-2 =
@@ -172,4 +180,5 @@ demand-2 =
       calls-then-own-cover = calls-then-own-cover;
       calls-then-same = calls-then-same;
       calls-then-crowd-cover = calls-then-crowd-cover;
+      calls-then-crowd-same = calls-then-crowd-same;
     }

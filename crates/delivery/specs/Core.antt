@@ -1,5 +1,5 @@
--- Demand 2, all of it: index, queries, peel and the cover for a guest count give the (α, β)-core of Definition 2.1, of the pairs that count and
--- those present, on any index of clearances, after a build, and after any list of calls; peel and cover with minimums give the largest set under them.
+-- Demand 2, all of it: index, queries and peel give the (α, β)-core of Definition 2.1, of the pairs that count and those present, on any index of
+-- clearances, after a build, and after any list of calls; peel, own cover and cover for a guest count with minimums give the largest set under them.
 use mathlib.Core.Path.{_≡_}
 use mathlib.Core.List.{List, _++_}
 use Prim.Native.Nat.{ℕ, _≤_}
@@ -11,7 +11,7 @@ use Rattle.model.specs.Layout.{Operators, Rides, Index, Presence, Board, mark-p
 use Rattle.model.specs.Refusal.{build-refusal, peel-refusal}
 use Rattle.model.specs.Calls.{board-query, board-peel, board-own-cover}
 use Rattle.model.specs.Crowd.{board-crowd-limits, board-crowd-cover}
-use Rattle.model.specs.Demand.{AllOnes, PeelLaws, CoverLaws, CoverUnderLaws, LevelLaws, ZeroIsNoLimit, PresenceLaws, QueryIsCore, IsCoverUnder, IsCore, IndexThenQuery, BuildThenQuery, PreviewThenQuery, PeelIsLargest, IsPeeledCover, OwnLimitsLaws, MinimumsAll, PeelIsCover, OwnCoverLaws, CrowdLimitsLaws, CrowdCoverLaws}
+use Rattle.model.specs.Demand.{AllOnes, PeelLaws, CoverLaws, CoverUnderLaws, LevelLaws, ZeroIsNoLimit, PresenceLaws, QueryIsCore, IsCoverUnder, IsCore, IndexThenQuery, BuildThenQuery, PreviewThenQuery, PeelIsLargest, IsPeeledCover, OwnLimitsLaws, MinimumsAll, MinimumsZeroOr, PeelIsCover, OwnCoverLaws, CrowdLimitsLaws, CrowdCoverLaws}
 use Rattle.delivery.specs.Calls.{Call, run, built-board}
 
 -- the index that a list of calls left is that of the listed pairs that then count
@@ -69,16 +69,32 @@ CallsThenSame =
     board-query (left .head) (left .part Index ++ more‴) (left .part Presence ++ more″) α β marks
     ≡ board-own-cover (left .head) (left .part Operators ++ more) (left .part Rides ++ more′) (left .part Presence ++ more″) minimums α β marks
 
--- each cover of it for a guest count, by a table that is accepted, gives the core for the limits of the look-up
+-- each cover of it for a guest count, by a table that is accepted, gives the largest set under its limits: the look-up's α, and each ride's own
+-- minimum, or the look-up's β
 abbrev pub CallsThenCrowdCover : Type 0
 CallsThenCrowdCover =
-    (b : Board) (start : ℕ) (calls : List Call) (more more′ more″ : List ℕ) (t : Bands) (guests : ℕ) (marks : List ℕ) →
+    (b : Board) (start : ℕ) (calls : List Call) (more more′ more″ minimums : List ℕ) (t : Bands) (guests : ℕ) (marks : List ℕ) →
     build-refusal b start ≡ 0 →
+    b .head .rides ≤ length minimums →
     mark-places (b .head) ≤ length marks →
     board-crowd-limits t guests .code ≡ 0 →
     let left = run (built-board b start) calls in
-    IsCore (board-graph left) (present (left .part Presence)) (board-crowd-limits t guests .alpha) (board-crowd-limits t guests .beta)
-    (board-crowd-cover (left .head) (left .part Operators ++ more) (left .part Rides ++ more′) (left .part Presence ++ more″) t guests marks)
+    IsCoverUnder (board-graph left) (present (left .part Presence))
+    (own-limits (b .head .operators) minimums (board-crowd-limits t guests .alpha) (board-crowd-limits t guests .beta))
+    (board-crowd-cover (left .head) (left .part Operators ++ more) (left .part Rides ++ more′) (left .part Presence ++ more″) t guests minimums marks)
+
+-- and where each minimum is 0 or the look-up's β its marks and counts are those of a query for the look-up's limits on the index that the calls left
+abbrev pub CallsThenCrowdSame : Type 0
+CallsThenCrowdSame =
+    (b : Board) (start : ℕ) (calls : List Call) (more more′ more″ more‴ minimums : List ℕ) (t : Bands) (guests : ℕ) (marks : List ℕ) →
+    build-refusal b start ≡ 0 →
+    b .head .rides ≤ length minimums →
+    mark-places (b .head) ≤ length marks →
+    board-crowd-limits t guests .code ≡ 0 →
+    MinimumsZeroOr (b .head .rides) minimums (board-crowd-limits t guests .beta) →
+    let left = run (built-board b start) calls in
+    board-query (left .head) (left .part Index ++ more‴) (left .part Presence ++ more″) (board-crowd-limits t guests .alpha) (board-crowd-limits t guests .beta) marks
+    ≡ board-crowd-cover (left .head) (left .part Operators ++ more) (left .part Rides ++ more′) (left .part Presence ++ more″) t guests minimums marks
 
 -- Demand 2, all of it
 pub record Demand2 : Type 0 where
@@ -102,8 +118,8 @@ pub record Demand2 : Type 0 where
   pub own-cover-laws : (h : Head) (operators rides presence minimums : List ℕ) (α β : ℕ) (marks : List ℕ) →
       OwnCoverLaws h operators rides presence minimums α β marks
   pub crowd-limits-laws : (t : Bands) (guests : ℕ) → CrowdLimitsLaws t guests
-  pub crowd-cover-laws : (h : Head) (operators rides presence : List ℕ) (t : Bands) (guests : ℕ) (marks : List ℕ) →
-      CrowdCoverLaws h operators rides presence t guests marks
+  pub crowd-cover-laws : (h : Head) (operators rides presence : List ℕ) (t : Bands) (guests : ℕ) (minimums marks : List ℕ) →
+      CrowdCoverLaws h operators rides presence t guests minimums marks
   -- from end to end
   pub calls-then-index : CallsThenIndex
   pub calls-then-query : CallsThenQuery
@@ -111,3 +127,4 @@ pub record Demand2 : Type 0 where
   pub calls-then-own-cover : CallsThenOwnCover
   pub calls-then-same : CallsThenSame
   pub calls-then-crowd-cover : CallsThenCrowdCover
+  pub calls-then-crowd-same : CallsThenCrowdSame

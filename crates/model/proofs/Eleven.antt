@@ -22,7 +22,7 @@ use Rattle.model.proofs.Count.{by-test, and-left, and-right}
 use Rattle.model.proofs.Chain.{first-here, first-skip}
 use Rattle.model.proofs.CrowdTable.{limits-code}
 use Rattle.model.proofs.OwnCover.{own-code}
-use Rattle.model.proofs.CrowdCover.{cover-code}
+use Rattle.model.proofs.CrowdCover.{crowd-code}
 use Rattle.model.proofs.Taken.{message-code, list-taken, list-refused}
 use Rattle.model.proofs.Preview.{preview-code}
 
@@ -109,7 +109,7 @@ never-eleven =
       peel = λ h operators rides presence minimums marks α β allowed e. first-lacks 11 (λ q. omega arith) _ tt (sym (peel-code h operators rides presence minimums marks α β allowed _ refl) ∙ e);
       own-cover = λ h operators rides presence minimums α β marks e. first-lacks 11 (λ q. omega arith) _ tt (sym (own-code h operators rides presence minimums α β marks _ refl) ∙ e);
       crowd-limits = λ t guests e. first-lacks 11 (λ q. omega arith) _ tt (sym (limits-code t guests _ refl) ∙ e);
-      crowd-cover = λ h operators rides presence t guests marks e. first-lacks 11 (λ q. omega arith) _ tt (sym (cover-code h operators rides presence t guests marks _ refl) ∙ e);
+      crowd-cover = λ h operators rides presence t guests minimums marks e. first-lacks 11 (λ q. omega arith) _ tt (sym (crowd-code h operators rides presence t guests minimums marks _ refl) ∙ e);
       message = message-never;
       preview = λ b m spare e. first-lacks 11 (λ q. omega arith) _ tt (sym (preview-code b m spare) ∙ e);
       messages = λ b ms answers e. first-lacks 11 (λ q. omega arith) _ tt (sym (list-code b ms answers _ refl) ∙ e);

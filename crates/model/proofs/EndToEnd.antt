@@ -13,9 +13,9 @@ use Rattle.model.specs.declared.Head.{Head}
 use Rattle.model.specs.declared.Counts.{Counts}
 use Rattle.model.specs.Count.{bit, values}
 use Rattle.model.specs.Graph.{Graph, nodes, Largest, limits, ride-limit, own-limits, marked, present, counting, settled, peel, level, row-for, in-by-level, index-of}
-use Rattle.model.specs.Layout.{Operators, Rides, Index, Presence, Board, pair-places, mark-places, index-places, over, sized, counting-graph, listed-graph, board-graph}
+use Rattle.model.specs.Layout.{Operators, Rides, Index, Presence, Board, mark-places, index-places, over, sized, counting-graph, listed-graph, board-graph}
 use Rattle.model.specs.Contents.{Pair, Operator, Ride, Entry, gives, Contents, counted, node-slot, words}
-use Rattle.model.specs.Refusal.{refused-1, refused-2, refused-3, refused-12, first-number, cover-short, cover-cases, peel-cases, build-refusal, query-refusal, peel-refusal}
+use Rattle.model.specs.Refusal.{refused-1, refused-2, refused-3, refused-12, first-number, peel-short, peel-cases, build-refusal, query-refusal, peel-refusal}
 use Rattle.model.specs.Calls.{start-contents, built, board-build, level-read, query-marks, counts, shown, board-query, peel-limits, peeled, board-peel}
 use Rattle.model.specs.Demand.{AllOnes, IsCoverUnder, IsCore, IndexThenQuery, BuildThenQuery, IsPeeled, PeelIsLargest, IsPeeledCover, IsPeeledCore, PeelIsCover}
 use Rattle.model.proofs.Count.{test-true, test-false, bit-test, bit-zero, and-true, or-cases, count-le, count-ext, some-witness, length-values, getD-values, values-ext, length-rows}
@@ -25,7 +25,7 @@ use Rattle.model.proofs.Level.{index-same}
 use Rattle.model.proofs.Presence.{largest-inside, all-count, core-all, largest-start}
 use Rattle.model.proofs.Query.{largest-ext, level-there, level-missing, query-in, query-is-core}
 use Rattle.model.proofs.Chain.{first-nil, first-skip, not-less}
-use Rattle.model.proofs.Refusal.{AcceptedTable, table-skip, build-none}
+use Rattle.model.proofs.Refusal.{AcceptedTable, parts-long, table-skip, build-none}
 
 -- ---- what a build leaves
 
@@ -180,25 +180,12 @@ build-then-query b start α β marks none long =
 
 -- ---- peel
 
--- on a board to which 1 to 5 do not apply, none of them applies to what is lent to a cover or a peel, and the numbers behind them decide,
--- where its marks, and its minimums if it has any, are long enough
-accepted-long : (b : Board) (marks : List ℕ) → AcceptedTable b → mark-places (b .head) ≤ length marks → T (cover-short (b .head) (b .part Operators) (b .part Rides) (b .part Presence) marks) → ⊥
-accepted-long b marks t long s =
-    let h : Head = b .head in
-    let o : Bool = refused-3 (pair-places h) (b .part Operators) in
-    let r : Bool = refused-3 (pair-places h) (b .part Rides) in
-    let p : Bool = refused-3 (mark-places h) (b .part Presence) in
-    let m : Bool = refused-3 (mark-places h) marks in
-    or-cases (o || r || p) m s (λ q. or-cases (o || r) p q (λ k. or-cases o r k (not-less (length (b .part Operators)) (pair-places h) (t .long Operators)) (not-less (length (b .part Rides)) (pair-places h) (t .long Rides))) (not-less (length (b .part Presence)) (mark-places h) (t .long Presence))) (not-less (length marks) (mark-places h) long)
-
-pub cover-cases-none : (b : Board) (marks : List ℕ) → AcceptedTable b → mark-places (b .head) ≤ length marks → first-number (cover-cases (b .head) (b .part Operators) (b .part Rides) (b .part Presence) marks) ≡ 0
-cover-cases-none b marks t long = table-skip b (cover-short (b .head) (b .part Operators) (b .part Rides) (b .part Presence) marks) [] t (accepted-long b marks t long) ∙ first-nil
-
+-- on a board to which 1 to 5 do not apply, none of them applies to what is lent to a peel or a cover, and the numbers behind them decide, where
+-- its minimums and marks are long enough
 peel-skip : (b : Board) (minimums marks : List ℕ) (cs : List (ℕ × Bool)) → AcceptedTable b → b .head .rides ≤ length minimums → mark-places (b .head) ≤ length marks → first-number (peel-cases (b .head) (b .part Operators) (b .part Rides) (b .part Presence) minimums marks ++ cs) ≡ first-number cs
 peel-skip b minimums marks cs t enough long =
-    let s : Bool = cover-short (b .head) (b .part Operators) (b .part Rides) (b .part Presence) marks in
-    let n : Bool = refused-3 (b .head .rides) minimums in
-    table-skip b (s || n) cs t (λ k. or-cases s n k (accepted-long b marks t long) (not-less (length minimums) (b .head .rides) enough))
+    table-skip b (peel-short (b .head) (b .part Operators) (b .part Rides) (b .part Presence) minimums marks) cs t
+    (parts-long (b .head) (b .part Operators) (b .part Rides) (b .part Presence) minimums marks (t .long Operators) (t .long Rides) (t .long Presence) enough long)
 
 pub own-cover-none : (b : Board) (minimums marks : List ℕ) → AcceptedTable b → b .head .rides ≤ length minimums → mark-places (b .head) ≤ length marks → first-number (peel-cases (b .head) (b .part Operators) (b .part Rides) (b .part Presence) minimums marks) ≡ 0
 own-cover-none b minimums marks t enough long = peel-skip b minimums marks [] t enough long ∙ first-nil

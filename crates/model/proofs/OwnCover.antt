@@ -1,23 +1,22 @@
 -- The cover with minimums: its number, that it is the largest set under its limits, and what it is where all minimums are one. Assumes nothing.
 use mathlib.Core.Path.{_≡_, refl, sym, ap, _∙_}
-use mathlib.Core.Bool.{Bool, true, false, _||_}
+use mathlib.Core.Bool.{Bool, true, false}
 use mathlib.Core.List.{List, [], _++_}
 use Prim.Native.Nat.{ℕ, _+_, _-_, _≤_, _<_}
 use native.Mathlib.Omega.{arith}
-use lib.Dec.{ltb, eqb}
-use borrow.Author.Tests.{le-ltb}
+use lib.Dec.{eqb}
 use lib.ListN.{length, getD, length-append, List·getD-append}
 use Rattle.model.specs.declared.Head.{Head}
 use Rattle.model.specs.Graph.{Graph, limits, ride-limit, own-limits, marked, present, index-of}
 use Rattle.model.specs.Layout.{mark-places, listed, counting-graph}
-use Rattle.model.specs.Refusal.{refused-3, first-number, table-cases, cover-short, peel-refusal, own-cover-refusal}
+use Rattle.model.specs.Refusal.{first-number, table-cases, peel-refusal, own-cover-refusal}
 use Rattle.model.specs.Calls.{QueryOutcome, shown, board-query, board-peel, board-own-cover}
 use Rattle.model.specs.Demand.{AllOnes, IsCoverUnder, IsCore, OwnLimitsLaws, MinimumsAll, OwnCoverLaws}
 use Rattle.model.proofs.Cover.{ride-none, ride-own, own-operator, own-ride, limits-rides, own-one, own-core}
 use Rattle.model.proofs.Peel.{peel-laws}
 use Rattle.model.proofs.Refusal.{peel-lent}
 use Rattle.model.proofs.EndToEnd.{query-shown, peel-is-cover}
-use Rattle.model.proofs.PresentCover.{present-cover-same, query-cover, short-length, ShowsCover, call-code, code-number, call-under, call-keeps, call-answer}
+use Rattle.model.proofs.PresentCover.{present-cover-same, query-cover, short-marks, short-minimums, ShowsCover, call-code, code-number, call-under, call-keeps, call-answer, calls-same}
 
 -- ---- the limits
 
@@ -25,7 +24,7 @@ at-ride : (n : ℕ) (minimums : List ℕ) (α β v : ℕ) → own-limits n minim
 at-ride n minimums α β v = own-ride n minimums α β (n + v) (omega arith) ∙ ap (ride-limit minimums β) (let e : n + v - n ≡ v = omega arith in e)
 
 -- words behind the rides' minimums change no limit
-behind-limits : (n m : ℕ) (minimums more : List ℕ) (α β : ℕ) → m ≤ length minimums → (x : ℕ) → x < n + m → own-limits n (minimums ++ more) α β x ≡ own-limits n minimums α β x
+pub behind-limits : (n m : ℕ) (minimums more : List ℕ) (α β : ℕ) → m ≤ length minimums → (x : ℕ) → x < n + m → own-limits n (minimums ++ more) α β x ≡ own-limits n minimums α β x
 unfolding own-limits
 behind-limits n m minimums more α β long =
     limits-rides n m α (ride-limit (minimums ++ more) β) (ride-limit minimums β) (λ v l. ap (λ (k : ℕ). elim (eqb k 0) [ true ↦ β | false ↦ k ]) (List·getD-append minimums more 0 v (omega arith)))
@@ -89,21 +88,17 @@ module _ (h : Head) (operators rides presence minimums : List ℕ) (α β : ℕ)
       sym (own-call .taken (number-of e))
 
 -- words behind the rides' minimums change nothing
-behind-same : (h : Head) (operators rides presence minimums : List ℕ) (α β : ℕ) (marks more : List ℕ) → board-own-cover h operators rides presence minimums α β marks .answer .code ≡ 0 → board-own-cover h operators rides presence (minimums ++ more) α β marks ≡ board-own-cover h operators rides presence minimums α β marks
+behind-same : (h : Head) (operators rides presence minimums : List ℕ) (α β : ℕ) (marks more : List ℕ) → h .rides ≤ length minimums → board-own-cover h operators rides presence (minimums ++ more) α β marks ≡ board-own-cover h operators rides presence minimums α β marks
 unfolding own-cover-refusal
-behind-same h operators rides presence minimums α β marks more e =
-    let none = number-of h operators rides presence minimums α β marks e in
-    let long = peel-lent h operators rides presence minimums marks [] none .1 in
-    let s : Bool = cover-short h operators rides presence marks in
-    let more-long : ltb (length (minimums ++ more)) (h .rides) ≡ ltb (length minimums) (h .rides) = le-ltb (length (minimums ++ more)) (h .rides) (omega (arith, length-append minimums more)) ∙ sym (le-ltb (length minimums) (h .rides) long) in
-    own-call h operators rides presence (minimums ++ more) α β marks .taken (ap (λ (b : Bool). first-number (table-cases h (s || b) operators rides)) more-long ∙ none) ∙
-    ap (λ (c : List ℕ). shown h c marks) (present-cover-same h operators rides presence (own-limits (h .operators) (minimums ++ more) α β) (own-limits (h .operators) minimums α β) (behind-limits (h .operators) (h .rides) minimums more α β long)) ∙
-    sym (own-call h operators rides presence minimums α β marks .taken none)
+behind-same h operators rides presence minimums α β marks more long =
+    calls-same (own-call h operators rides presence (minimums ++ more) α β marks) (own-call h operators rides presence minimums α β marks)
+    (ap (λ (s : Bool). first-number (table-cases h s operators rides)) (short-minimums h operators rides presence (minimums ++ more) minimums marks (omega (arith, length-append minimums more)) long))
+    (λ z. behind-limits (h .operators) (h .rides) minimums more α β long)
 
 number-length : (h : Head) (operators rides presence minimums marks other : List ℕ) → length other ≡ length marks → own-cover-refusal h operators rides presence minimums other ≡ own-cover-refusal h operators rides presence minimums marks
 unfolding own-cover-refusal
 number-length h operators rides presence minimums marks other e =
-    ap (λ (s : Bool). first-number (table-cases h (s || refused-3 (h .rides) minimums) operators rides)) (short-length h operators rides presence marks other e)
+    ap (λ (s : Bool). first-number (table-cases h s operators rides)) (short-marks h operators rides presence minimums marks other e)
 
 any-marks : (h : Head) (operators rides presence minimums : List ℕ) (α β : ℕ) (marks other : List ℕ) → length other ≡ length marks → board-own-cover h operators rides presence minimums α β other .answer ≡ board-own-cover h operators rides presence minimums α β marks .answer
 any-marks h operators rides presence minimums α β marks other e =

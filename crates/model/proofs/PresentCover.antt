@@ -6,6 +6,7 @@ use mathlib.Core.List.{List}
 use Prim.Native.Nat.{ℕ, zero, suc, _≤_, _<_}
 use native.Mathlib.Omega.{arith}
 use lib.Dec.{ltb}
+use borrow.Author.Tests.{le-ltb}
 use lib.ListN.{length, getD, drop}
 use lib.Seq.{drop-at}
 use Rattle.model.specs.declared.Head.{Head}
@@ -13,7 +14,7 @@ use Rattle.model.specs.declared.Counts.{Counts}
 use Rattle.model.specs.Count.{bit}
 use Rattle.model.specs.Graph.{Graph, nodes, Largest, everybody, limits, marked, present, raised, cover-under, index-of}
 use Rattle.model.specs.Layout.{pair-places, mark-places, listed, counting-graph}
-use Rattle.model.specs.Refusal.{refused-3, cover-short}
+use Rattle.model.specs.Refusal.{refused-3, peel-short}
 use Rattle.model.specs.Calls.{QueryOutcome, query-marks, counts, shown, not-shown, present-limits, present-cover}
 use Rattle.model.specs.Outcome.{queried}
 use Rattle.model.specs.Demand.{IsCoverUnder, Keeps}
@@ -68,11 +69,18 @@ query-cover h operators rides presence α β =
 
 -- ---- a call that shows it, or is refused
 
--- of the marks that come in the length counts alone
-pub short-length : (h : Head) (operators rides presence marks other : List ℕ) → length other ≡ length marks → cover-short h operators rides presence other ≡ cover-short h operators rides presence marks
-short-length h operators rides presence marks other e =
-    let o : Bool = refused-3 (pair-places h) operators || refused-3 (pair-places h) rides || refused-3 (mark-places h) presence in
-    ap (λ (n : ℕ). o || ltb n (mark-places h)) e
+module _ (h : Head) (operators rides presence : List ℕ) where
+  abbrev before : Bool
+  before = refused-3 (pair-places h) operators || refused-3 (pair-places h) rides || refused-3 (mark-places h) presence
+
+  -- of the marks that come in the length counts alone
+  pub short-marks : (minimums marks other : List ℕ) → length other ≡ length marks → peel-short h operators rides presence minimums other ≡ peel-short h operators rides presence minimums marks
+  short-marks minimums marks other e = ap (λ (n : ℕ). before || refused-3 (h .rides) minimums || ltb n (mark-places h)) e
+
+  -- of minimums, that they are long enough
+  pub short-minimums : (minimums other marks : List ℕ) → h .rides ≤ length minimums → h .rides ≤ length other → peel-short h operators rides presence minimums marks ≡ peel-short h operators rides presence other marks
+  short-minimums minimums other marks long long′ =
+      ap (λ (b : Bool). before || b || refused-3 (mark-places h) marks) (le-ltb (length minimums) (h .rides) long ∙ sym (le-ltb (length other) (h .rides) long′))
 
 -- a call with this number and outcome: it shows this cover over the marks that came in, or is refused
 pub record ShowsCover (h : Head) (operators rides presence : List ℕ) (limit : ℕ → ℕ) (marks : List ℕ) (number : ℕ) (outcome : QueryOutcome) : Type 0 where
@@ -136,3 +144,14 @@ module _ {h : Head} {operators rides presence : List ℕ} {limit : ℕ → ℕ} 
   pub call-answer : (k : ℕ) → number ≡ k → outcome .answer ≡ answer-by k
   call-answer zero e = ap (λ (o : QueryOutcome). o .answer) (call .taken e)
   call-answer (suc k) e = ap (λ (o : QueryOutcome). o .answer) (call .refused k e)
+
+-- two calls with the same number, and where it is 0 with the same limit for every node, give the same
+pub calls-same : {h : Head} {operators rides presence : List ℕ} {limit limit′ : ℕ → ℕ} {marks : List ℕ} {number number′ : ℕ} {outcome outcome′ : QueryOutcome} → ShowsCover h operators rides presence limit marks number outcome → ShowsCover h operators rides presence limit′ marks number′ outcome′ → number ≡ number′ → (number ≡ 0 → (x : ℕ) → x < mark-places h → limit x ≡ limit′ x) → outcome ≡ outcome′
+calls-same {h} {operators} {rides} {presence} {limit} {limit′} {marks} {number} {number′} {outcome} {outcome′} call other e same = go number refl
+  where
+    go : (k : ℕ) → number ≡ k → outcome ≡ outcome′
+    go zero z =
+        call .taken z ∙
+        ap (λ (s : List ℕ). shown h s marks) (present-cover-same h operators rides presence limit limit′ (same z)) ∙
+        sym (other .taken (sym e ∙ z))
+    go (suc k) z = call .refused k z ∙ sym (other .refused k (sym e ∙ z))

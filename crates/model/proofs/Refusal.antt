@@ -12,7 +12,7 @@ use Rattle.model.specs.declared.Head.{Head}
 use Rattle.model.specs.declared.Message.{Message}
 use Rattle.model.specs.Layout.{Part, Operators, Rides, Stamps, Board, pair-places, mark-places, places, listed-graph}
 use Rattle.model.specs.Contents.{Slot, Pair, Operator, Ride, slot, pair-place}
-use Rattle.model.specs.Refusal.{refused-1, refused-2, refused-3, refused-4, refused-5, refused-6, refused-7, refused-8, refused-9, refused-10, refused-14, refused-15, outside, unused, first-number, board-short, table-cases, cover-short, peel-cases, valid-cases, message-cases, build-refusal, message-refusal, list-refusal}
+use Rattle.model.specs.Refusal.{refused-1, refused-2, refused-3, refused-4, refused-5, refused-6, refused-7, refused-8, refused-9, refused-10, refused-14, refused-15, outside, unused, first-number, board-short, table-cases, peel-short, peel-cases, valid-cases, message-cases, build-refusal, message-refusal, list-refusal}
 use Rattle.model.proofs.Count.{by-test, and-left, and-right, and-both, or-left, or-right, or-cases, some-holds, some-witness}
 use Rattle.model.proofs.Chain.{Positive, first-nil, first-here, first-skip, first-none, first-behind, first-split, enough, not-less}
 use Rattle.model.proofs.Parts.{board-long, long-board}
@@ -27,51 +27,71 @@ pub record AcceptedTable (b : Board) : Type 0 where
   pub long : (p : Part) → places (b .head) p ≤ length (b .part p)
   pub pairs : Pairs (listed-graph b) (b .head .pairs) (b .part Operators) (b .part Rides)
 
--- what 1 to 5 say of pair arrays, presence words and marks that are lent to a cover or a peel
-pub record CoverLent (h : Head) (operators rides presence marks : List ℕ) : Type 0 where
+-- what 1 to 5 say of what is lent to a peel or a cover
+pub record PeelLent (h : Head) (operators rides presence minimums marks : List ℕ) : Type 0 where
   pub few-operators : h .operators ≤ 200
   pub few-rides : h .rides ≤ 60
   pub operators-long : pair-places h ≤ length operators
   pub rides-long : pair-places h ≤ length rides
   pub presence-long : mark-places h ≤ length presence
+  pub minimums-long : h .rides ≤ length minimums
   pub marks-long : mark-places h ≤ length marks
   pub pairs-few : h .pairs ≤ pair-places h
   pub ordered : T (refused-5 h operators rides) → ⊥
 
--- too-short is the call's own 3
-pub cover-lent : (h : Head) (operators rides presence marks : List ℕ) (too-short : Bool) (cs : List (ℕ × Bool)) → (T (cover-short h operators rides presence marks) → T too-short) → first-number (table-cases h too-short operators rides ++ cs) ≡ 0 → CoverLent h operators rides presence marks × (T too-short → ⊥) × (first-number cs ≡ 0)
-cover-lent h operators rides presence marks too-short cs within e =
-    let o : Bool = refused-3 (pair-places h) operators in
-    let r : Bool = refused-3 (pair-places h) rides in
-    let p : Bool = refused-3 (mark-places h) presence in
-    let m : Bool = refused-3 (mark-places h) marks in
-    let n1 = first-none 0 (refused-1 h) _ e in
-    let n2 = first-none 1 (refused-2 h) _ (n1 .1) in
-    let n3 = first-none 2 too-short _ (n2 .1) in
-    let n4 = first-none 3 (refused-4 h) _ (n3 .1) in
-    let n5 = first-none 4 (refused-5 h operators rides) _ (n4 .1) in
-    let long : T (o || r || p || m) → ⊥ = λ t. n3 .0 (within t) in (
-      record {
-        few-operators = enough 200 (h .operators) (n1 .0);
-        few-rides = enough 60 (h .rides) (n2 .0);
-        operators-long = enough (length operators) (pair-places h) (λ t. long (or-left (o || r || p) m (or-left (o || r) p (or-left o r t))));
-        rides-long = enough (length rides) (pair-places h) (λ t. long (or-left (o || r || p) m (or-left (o || r) p (or-right o r t))));
-        presence-long = enough (length presence) (mark-places h) (λ t. long (or-left (o || r || p) m (or-right (o || r) p t)));
-        marks-long = enough (length marks) (mark-places h) (λ t. long (or-right (o || r || p) m t));
-        pairs-few = enough (pair-places h) (h .pairs) (n4 .0);
-        ordered = n5 .0;
-      },
-      n3 .0,
-      n5 .1,
-    )
+-- where none of its parts is too short
+module _ (h : Head) (operators rides presence minimums marks : List ℕ) where
+  abbrev o : Bool
+  o = refused-3 (pair-places h) operators
 
--- with minimums
-pub peel-lent : (h : Head) (operators rides presence minimums marks : List ℕ) (cs : List (ℕ × Bool)) → first-number (peel-cases h operators rides presence minimums marks ++ cs) ≡ 0 → CoverLent h operators rides presence marks × (h .rides ≤ length minimums) × (first-number cs ≡ 0)
-peel-lent h operators rides presence minimums marks cs e =
-    let s : Bool = cover-short h operators rides presence marks in
-    let n : Bool = refused-3 (h .rides) minimums in
-    let l = cover-lent h operators rides presence marks (s || n) cs (or-left s n) e in
-    (l .0, enough (length minimums) (h .rides) (λ t. l .1 (or-right s n t)), l .2)
+  abbrev r : Bool
+  r = refused-3 (pair-places h) rides
+
+  abbrev p : Bool
+  p = refused-3 (mark-places h) presence
+
+  abbrev n : Bool
+  n = refused-3 (h .rides) minimums
+
+  abbrev m : Bool
+  m = refused-3 (mark-places h) marks
+
+  pub long-parts : (T (peel-short h operators rides presence minimums marks) → ⊥) → (pair-places h ≤ length operators) × (pair-places h ≤ length rides) × (mark-places h ≤ length presence) × (h .rides ≤ length minimums) × (mark-places h ≤ length marks)
+  long-parts long = (
+    enough (length operators) (pair-places h) (λ t. long (or-left (o || r || p || n) m (or-left (o || r || p) n (or-left (o || r) p (or-left o r t))))),
+    enough (length rides) (pair-places h) (λ t. long (or-left (o || r || p || n) m (or-left (o || r || p) n (or-left (o || r) p (or-right o r t))))),
+    enough (length presence) (mark-places h) (λ t. long (or-left (o || r || p || n) m (or-left (o || r || p) n (or-right (o || r) p t)))),
+    enough (length minimums) (h .rides) (λ t. long (or-left (o || r || p || n) m (or-right (o || r || p) n t))),
+    enough (length marks) (mark-places h) (λ t. long (or-right (o || r || p || n) m t)),
+  )
+
+  pub parts-long : pair-places h ≤ length operators → pair-places h ≤ length rides → mark-places h ≤ length presence → h .rides ≤ length minimums → mark-places h ≤ length marks → T (peel-short h operators rides presence minimums marks) → ⊥
+  parts-long a b c d e s =
+      or-cases (o || r || p || n) m s
+      (λ s. or-cases (o || r || p) n s (λ s. or-cases (o || r) p s (λ s. or-cases o r s (not-less (length operators) (pair-places h) a) (not-less (length rides) (pair-places h) b)) (not-less (length presence) (mark-places h) c)) (not-less (length minimums) (h .rides) d))
+      (not-less (length marks) (mark-places h) e)
+
+  pub peel-lent : (cs : List (ℕ × Bool)) → first-number (peel-cases h operators rides presence minimums marks ++ cs) ≡ 0 → PeelLent h operators rides presence minimums marks × (first-number cs ≡ 0)
+  peel-lent cs e =
+      let n1 = first-none 0 (refused-1 h) _ e in
+      let n2 = first-none 1 (refused-2 h) _ (n1 .1) in
+      let n3 = first-none 2 (peel-short h operators rides presence minimums marks) _ (n2 .1) in
+      let n4 = first-none 3 (refused-4 h) _ (n3 .1) in
+      let n5 = first-none 4 (refused-5 h operators rides) _ (n4 .1) in
+      let long = long-parts (n3 .0) in (
+        record {
+          few-operators = enough 200 (h .operators) (n1 .0);
+          few-rides = enough 60 (h .rides) (n2 .0);
+          operators-long = long .0;
+          rides-long = long .1;
+          presence-long = long .2;
+          minimums-long = long .3;
+          marks-long = long .4;
+          pairs-few = enough (pair-places h) (h .pairs) (n4 .0);
+          ordered = n5 .0;
+        },
+        n5 .1,
+      )
 
 -- a board to which 1 to 6 do not apply
 pub record Accepted (b : Board) : Type 0 where

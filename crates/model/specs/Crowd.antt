@@ -1,4 +1,4 @@
--- Document 02, 2.6, Limits by crowd: bands of guest counts, the numbers 16 to 18, the look-up, and the cover for a guest count.
+-- Document 02, 2.6, Limits by crowd: bands of guest counts, the numbers 16 to 18, the look-up, and the cover for a guest count; 2.8: with minimums.
 use mathlib.Core.Bool.{Bool, _&&_, _||_, not}
 use mathlib.Core.List.{List, [], _∷_, _++_}
 use Prim.Native.Nat.{ℕ, zero, suc}
@@ -9,8 +9,8 @@ use Rattle.model.specs.declared.Band.{Band}
 use Rattle.model.specs.declared.Bands.{Bands}
 use Rattle.model.specs.declared.CrowdLimits.{CrowdLimits}
 use Rattle.model.specs.Count.{count, some, lowest}
-use Rattle.model.specs.Graph.{limits}
-use Rattle.model.specs.Refusal.{first-number, cover-cases}
+use Rattle.model.specs.Graph.{own-limits}
+use Rattle.model.specs.Refusal.{first-number, peel-cases}
 use Rattle.model.specs.Calls.{QueryOutcome, shown, not-shown, present-cover}
 
 -- the largest number of guests
@@ -67,19 +67,21 @@ board-crowd-limits t guests =
       | suc k ↦ record { code = suc k; alpha = 0; beta = 0 }
     ]
 
--- the limits of the band that a guest count falls in, the same for every ride; own minimums don't count here
-abbrev pub band-limits : Head → Bands → ℕ → ℕ → ℕ
-band-limits h t guests = limits (h .operators) (band-for t guests .alpha) (band-for t guests .beta)
+-- Document 02, 2.8: the limits of the band that a guest count falls in, with minimums: its α for operators, for each ride its own minimum where it
+-- has one, else the band's β
+abbrev pub band-limits : Head → Bands → ℕ → List ℕ → ℕ → ℕ
+band-limits h t guests minimums =
+    own-limits (h .operators) minimums (band-for t guests .alpha) (band-for t guests .beta)
 
 -- cover for a guest count: 1 to 5, then 16 to 18
-unfoldable pub crowd-cover-refusal : Head → List ℕ → List ℕ → List ℕ → Bands → ℕ → List ℕ → ℕ
-crowd-cover-refusal h operators rides presence t guests marks =
-    first-number (cover-cases h operators rides presence marks ++ crowd-cases t guests)
+unfoldable pub crowd-cover-refusal : Head → List ℕ → List ℕ → List ℕ → Bands → ℕ → List ℕ → List ℕ → ℕ
+crowd-cover-refusal h operators rides presence t guests minimums marks =
+    first-number (peel-cases h operators rides presence minimums marks ++ crowd-cases t guests)
 
--- Cover for a guest count: the cover for the limits of its band
-unfoldable pub board-crowd-cover : Head → List ℕ → List ℕ → List ℕ → Bands → ℕ → List ℕ → QueryOutcome
-board-crowd-cover h operators rides presence t guests marks =
-    elim (crowd-cover-refusal h operators rides presence t guests marks) [
-      | zero ↦ shown h (present-cover h operators rides presence (band-limits h t guests)) marks
+-- Cover for a guest count: the cover for the limits of its band, with minimums
+unfoldable pub board-crowd-cover : Head → List ℕ → List ℕ → List ℕ → Bands → ℕ → List ℕ → List ℕ → QueryOutcome
+board-crowd-cover h operators rides presence t guests minimums marks =
+    elim (crowd-cover-refusal h operators rides presence t guests minimums marks) [
+      | zero ↦ shown h (present-cover h operators rides presence (band-limits h t guests minimums)) marks
       | suc k ↦ not-shown (suc k) marks
     ]

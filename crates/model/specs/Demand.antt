@@ -1,6 +1,6 @@
 -- What documents 000, 01 and 02 say of the definitions, as statements for every graph, limit and starting set: proofs/ proves each record.
 use mathlib.Core.Path.{_≡_}
-use mathlib.Core.Logic.{_↔_, _≢_}
+use mathlib.Core.Logic.{_↔_, _≢_, _⊎_}
 use mathlib.Core.Bool.{Bool, true, false, _&&_, not}
 use mathlib.Core.List.{List, [], _∷_, _++_}
 use Prim.Native.Nat.{ℕ, _+_, _-_, _*_, _≤_, _<_, max}
@@ -13,7 +13,7 @@ use Rattle.model.specs.Count.{count, some}
 use Rattle.model.specs.Graph.{Graph, nodes, degree, everybody, Inside, Largest, limits, own-limits, CoreInside, Core, marked, present, counting, raised, short, settled, removals, peel, cover-under, cover, level, row-for, in-by-level, index-of}
 use Rattle.model.specs.Layout.{Part, Index, Presence, Board, mark-places, places, of-parts, exact, copied, sized, counting-graph, listed-graph, board-graph}
 use Rattle.model.specs.Contents.{Slot, Pair, Operator, Ride, Entry, gives, later, slot, entry, contents}
-use Rattle.model.specs.Refusal.{refused-1, refused-2, refused-7, refused-8, refused-9, refused-14, outside, unused, first-number, board-short, valid-cases, cover-cases, peel-cases, build-refusal, list-refusal, peel-refusal}
+use Rattle.model.specs.Refusal.{refused-1, refused-2, refused-7, refused-8, refused-9, refused-14, outside, unused, first-number, board-short, valid-cases, peel-cases, build-refusal, list-refusal, peel-refusal}
 use Rattle.model.specs.Calls.{QueryOutcome, PeelOutcome, query-marks, board-build, board-query, board-peel, board-own-cover}
 use Rattle.model.specs.Crowd.{most-guests, band, board-crowd-limits, board-crowd-cover}
 use Rattle.model.specs.Message.{board-message, board-preview, board-messages}
@@ -139,8 +139,8 @@ pub record NeverEleven : Type 0 where
   pub own-cover : (h : Head) (operators rides presence minimums : List ℕ) (α β : ℕ) (marks : List ℕ) →
       board-own-cover h operators rides presence minimums α β marks .answer .code ≢ 11
   pub crowd-limits : (t : Bands) (guests : ℕ) → board-crowd-limits t guests .code ≢ 11
-  pub crowd-cover : (h : Head) (operators rides presence : List ℕ) (t : Bands) (guests : ℕ) (marks : List ℕ) →
-      board-crowd-cover h operators rides presence t guests marks .answer .code ≢ 11
+  pub crowd-cover : (h : Head) (operators rides presence : List ℕ) (t : Bands) (guests : ℕ) (minimums marks : List ℕ) →
+      board-crowd-cover h operators rides presence t guests minimums marks .answer .code ≢ 11
   pub message : (b : Board) (m : Message) → board-message b m .answer .code ≢ 11
   pub preview : (b : Board) (m : Message) (spare : Board) → board-preview b m spare .answer .code ≢ 11
   pub messages : (b : Board) (ms : List Message) (answers : List ℕ) → board-messages b ms answers .code ≢ 11
@@ -289,6 +289,10 @@ IsPeeledCore g here α β allowed o = IsPeeledCover g here (limits (g .operators
 abbrev pub MinimumsAll : ℕ → List ℕ → ℕ → Type 0
 MinimumsAll rides minimums m = (v : ℕ) → v < rides → getD minimums v 0 ≡ m
 
+-- the minimums of so many rides are each 0 or β
+abbrev pub MinimumsZeroOr : ℕ → List ℕ → ℕ → Type 0
+MinimumsZeroOr rides minimums β = (v : ℕ) → v < rides → (getD minimums v 0 ≡ 0) ⊎ (getD minimums v 0 ≡ β)
+
 -- Document 02, 2.7, of the limits with any minimums; ride v is node operators + v
 pub record OwnLimitsLaws (minimums : List ℕ) (α β : ℕ) : Type 0 where
   -- α for every operator
@@ -344,7 +348,7 @@ pub record OwnCoverLaws (h : Head) (operators rides presence minimums : List ℕ
   -- the marks that come in aren't read, nor are words behind the rides' minimums
   pub any-answer : (other : List ℕ) → length other ≡ length marks →
       board-own-cover h operators rides presence minimums α β other .answer ≡ board-own-cover h operators rides presence minimums α β marks .answer
-  pub any-behind : (more : List ℕ) → board-own-cover h operators rides presence minimums α β marks .answer .code ≡ 0 →
+  pub any-behind : (more : List ℕ) → h .rides ≤ length minimums →
       board-own-cover h operators rides presence (minimums ++ more) α β marks ≡ board-own-cover h operators rides presence minimums α β marks
 
 -- Document 02, 2.6. Guest count c falls in band i of a table
@@ -397,26 +401,43 @@ pub record CrowdLimitsLaws (t : Bands) (guests : ℕ) : Type 0 where
   pub no-alpha : board-crowd-limits t guests .code ≢ 0 → board-crowd-limits t guests .alpha ≡ 0
   pub no-beta : board-crowd-limits t guests .code ≢ 0 → board-crowd-limits t guests .beta ≡ 0
 
--- Document 02, 2.6, of a cover for any guest count by any table, of any pair table and any presence words
-pub record CrowdCoverLaws (h : Head) (operators rides presence : List ℕ) (t : Bands) (guests : ℕ) (marks : List ℕ) : Type 0 where
-  -- the board's own checks come first, 1 to 5; where none applies it has the number of the look-up
-  pub board-first : first-number (cover-cases h operators rides presence marks) ≢ 0 →
-      board-crowd-cover h operators rides presence t guests marks .answer .code ≡ first-number (cover-cases h operators rides presence marks)
-  pub then-bands : first-number (cover-cases h operators rides presence marks) ≡ 0 →
-      board-crowd-cover h operators rides presence t guests marks .answer .code ≡ board-crowd-limits t guests .code
-  -- not refused, it is the core of the pairs that count and those present for the limits of the look-up, and its counts are its sizes
-  pub core : board-crowd-cover h operators rides presence t guests marks .answer .code ≡ 0 →
+-- Document 02, 2.6 and 2.8, of a cover for any guest count by any table, with any minimums, of any pair table and any presence words
+pub record CrowdCoverLaws (h : Head) (operators rides presence : List ℕ) (t : Bands) (guests : ℕ) (minimums marks : List ℕ) : Type 0 where
+  -- the board's own checks come first, 1 to 5, with 3 for a short list of minimums; where none applies it has the number of the look-up
+  pub board-first : first-number (peel-cases h operators rides presence minimums marks) ≢ 0 →
+      board-crowd-cover h operators rides presence t guests minimums marks .answer .code ≡ first-number (peel-cases h operators rides presence minimums marks)
+  pub then-bands : first-number (peel-cases h operators rides presence minimums marks) ≡ 0 →
+      board-crowd-cover h operators rides presence t guests minimums marks .answer .code ≡ board-crowd-limits t guests .code
+  -- where the look-up isn't refused, it is the own cover for the look-up's limits with the same minimums, refused or not
+  pub as-own : board-crowd-limits t guests .code ≡ 0 →
+      board-crowd-cover h operators rides presence t guests minimums marks
+      ≡ board-own-cover h operators rides presence minimums (board-crowd-limits t guests .alpha) (board-crowd-limits t guests .beta) marks
+  -- not refused, it is the largest set, of the pairs that count and those present, under the look-up's α and each ride's own minimum, or the
+  -- look-up's β; its counts are its sizes
+  pub own : board-crowd-cover h operators rides presence t guests minimums marks .answer .code ≡ 0 →
+      IsCoverUnder (counting-graph h operators rides presence) (present presence)
+      (own-limits (h .operators) minimums (board-crowd-limits t guests .alpha) (board-crowd-limits t guests .beta))
+      (board-crowd-cover h operators rides presence t guests minimums marks)
+  -- minimums that are each 0 or the look-up's β change nothing: it is what it is with zeros, refused or not; none does where the look-up is refused
+  pub unchanged : (zeros : List ℕ) → MinimumsAll (h .rides) zeros 0 → h .rides ≤ length zeros → h .rides ≤ length minimums →
+      (board-crowd-limits t guests .code ≡ 0 → MinimumsZeroOr (h .rides) minimums (board-crowd-limits t guests .beta)) →
+      board-crowd-cover h operators rides presence t guests minimums marks ≡ board-crowd-cover h operators rides presence t guests zeros marks
+  -- and not refused what 2.6 gives: the core for the look-up's limits, and what a query for these gives on an index of the same pairs
+  pub core : MinimumsZeroOr (h .rides) minimums (board-crowd-limits t guests .beta) →
+      board-crowd-cover h operators rides presence t guests minimums marks .answer .code ≡ 0 →
       IsCore (counting-graph h operators rides presence) (present presence) (board-crowd-limits t guests .alpha) (board-crowd-limits t guests .beta)
-      (board-crowd-cover h operators rides presence t guests marks)
-  -- refused, it leaves the marks, and its counts are 0; places past operators + rides stay
-  pub keeps : Keeps h marks (board-crowd-cover h operators rides presence t guests marks)
-  -- the marks that come in aren't read
-  pub any-answer : (other : List ℕ) → length other ≡ length marks →
-      board-crowd-cover h operators rides presence t guests other .answer ≡ board-crowd-cover h operators rides presence t guests marks .answer
-  -- a query for these limits on an index of the same pairs gives the same
-  pub as-query : (more : List ℕ) → board-crowd-cover h operators rides presence t guests marks .answer .code ≡ 0 →
+      (board-crowd-cover h operators rides presence t guests minimums marks)
+  pub as-query : (more : List ℕ) → MinimumsZeroOr (h .rides) minimums (board-crowd-limits t guests .beta) →
+      board-crowd-cover h operators rides presence t guests minimums marks .answer .code ≡ 0 →
       board-query h (index-of (counting-graph h operators rides presence) ++ more) presence (board-crowd-limits t guests .alpha) (board-crowd-limits t guests .beta) marks
-      ≡ board-crowd-cover h operators rides presence t guests marks
+      ≡ board-crowd-cover h operators rides presence t guests minimums marks
+  -- refused, it leaves the marks, and its counts are 0; places past operators + rides stay
+  pub keeps : Keeps h marks (board-crowd-cover h operators rides presence t guests minimums marks)
+  -- the marks that come in aren't read, nor are words behind the rides' minimums
+  pub any-answer : (other : List ℕ) → length other ≡ length marks →
+      board-crowd-cover h operators rides presence t guests minimums other .answer ≡ board-crowd-cover h operators rides presence t guests minimums marks .answer
+  pub any-behind : (more : List ℕ) → h .rides ≤ length minimums →
+      board-crowd-cover h operators rides presence t guests (minimums ++ more) marks ≡ board-crowd-cover h operators rides presence t guests minimums marks
 
 -- below the sizes the clearances c have all of g's, and further ones, if any, of the operator u alone
 pub record Gained (g : Graph) (c : ℕ → ℕ → Bool) (u : ℕ) : Type 0 where

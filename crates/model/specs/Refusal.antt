@@ -149,20 +149,16 @@ preview-refusal b m spare =
 unfoldable pub list-refusal : Board → ℕ → List ℕ → ℕ
 list-refusal b messages answers = first-number (board-cases b (board-short b || refused-3 messages answers))
 
--- a pair array, the presence words or the marks are too short
-abbrev pub cover-short : Head → List ℕ → List ℕ → List ℕ → List ℕ → Bool
-cover-short h operators rides presence marks =
-    refused-3 (pair-places h) operators || refused-3 (pair-places h) rides || refused-3 (mark-places h) presence || refused-3 (mark-places h) marks
+-- a pair array, the presence words, the minimums or the marks are too short
+abbrev pub peel-short : Head → List ℕ → List ℕ → List ℕ → List ℕ → List ℕ → Bool
+peel-short h operators rides presence minimums marks =
+    refused-3 (pair-places h) operators || refused-3 (pair-places h) rides || refused-3 (mark-places h) presence ||
+    refused-3 (h .rides) minimums || refused-3 (mark-places h) marks
 
--- 1 to 5, of what is lent to a cover without minimums
-abbrev pub cover-cases : Head → List ℕ → List ℕ → List ℕ → List ℕ → List (ℕ × Bool)
-cover-cases h operators rides presence marks =
-    table-cases h (cover-short h operators rides presence marks) operators rides
-
--- 1 to 5, of what is lent to a peel, and to an own cover; document 02, 2.7: a short list of minimums is 3
+-- 1 to 5, of what is lent to a peel, and to the covers; document 02, 2.7: a short list of minimums is 3
 abbrev pub peel-cases : Head → List ℕ → List ℕ → List ℕ → List ℕ → List ℕ → List (ℕ × Bool)
 peel-cases h operators rides presence minimums marks =
-    table-cases h (cover-short h operators rides presence marks || refused-3 (h .rides) minimums) operators rides
+    table-cases h (peel-short h operators rides presence minimums marks) operators rides
 
 -- peel: 1 to 5 and 12
 unfoldable pub peel-refusal : Head → List ℕ → List ℕ → List ℕ → List ℕ → List ℕ → ℕ
