@@ -1,7 +1,7 @@
--- The numbers of a cover and a peel, test by test: 3, and 12 behind those of a pair table. Assumes nothing.
+-- The numbers of a peel or a cover, test by test: 3, and 12 behind those of a pair table. Assumes nothing.
 use mathlib.Core.Path.{_≡_, sym, ap, _∙_, subst}
 use mathlib.Core.Logic.{_≢_}
-use mathlib.Core.Bool.{Bool, true, false, _||_}
+use mathlib.Core.Bool.{Bool, true, false}
 use mathlib.Core.List.{List, [], _∷_, _++_}
 use Prim.Native.Nat.{ℕ, _≤_, _<_}
 use native.Mathlib.Omega.{arith}
@@ -11,31 +11,17 @@ use lib.ListN.{length, getD}
 use Rattle.model.specs.declared.Head.{Head}
 use Rattle.model.specs.Count.{some}
 use Rattle.model.specs.Layout.{pair-places, mark-places}
-use Rattle.model.specs.Refusal.{refused-3, refused-12, first-number, table-cases, cover-short, peel-cases, peel-refusal}
-use Rattle.model.proofs.Count.{test-true, test-false, some-holds, some-witness, or-left, or-right}
-use Rattle.model.proofs.Chain.{first-nil, first-here, first-skip, enough, not-less}
+use Rattle.model.specs.Refusal.{refused-12, first-number, table-cases, peel-short, peel-cases, peel-refusal}
+use Rattle.model.proofs.Count.{test-true, test-false, some-holds, some-witness}
+use Rattle.model.proofs.Chain.{first-nil, first-here, first-skip, not-less}
 use Rattle.model.proofs.Refusal.{peel-lent}
 use Rattle.pairs.specs.Accepted.{AcceptedPairs}
 use Rattle.refusals.proofs.Chain.{table-first, table-rest}
 
--- ---- cover and peel
-
--- the parts that a cover is lent, where none is too short
-pub cover-long : (h : Head) (operators rides presence marks : List ℕ) → (T (cover-short h operators rides presence marks) → ⊥) → (pair-places h ≤ length operators) × (pair-places h ≤ length rides)
-cover-long h operators rides presence marks n =
-    let o : Bool = refused-3 (pair-places h) operators in
-    let r : Bool = refused-3 (pair-places h) rides in
-    let p : Bool = refused-3 (mark-places h) presence in
-    let m : Bool = refused-3 (mark-places h) marks in (
-      enough (length operators) (pair-places h) (λ t. n (or-left (o || r || p) m (or-left (o || r) p (or-left o r t)))),
-      enough (length rides) (pair-places h) (λ t. n (or-left (o || r || p) m (or-left (o || r) p (or-right o r t)))),
-    )
-
--- what a cover or a peel is lent, where 1 to 5 don't apply
+-- what a peel or a cover is lent, where 1 to 5 don't apply
 pub lent-accepted : (h : Head) (operators rides presence minimums marks : List ℕ) (cs : List (ℕ × Bool)) → first-number (peel-cases h operators rides presence minimums marks ++ cs) ≡ 0 → AcceptedPairs h operators rides × (mark-places h ≤ length presence) × (h .rides ≤ length minimums) × (mark-places h ≤ length marks)
 lent-accepted h operators rides presence minimums marks cs e =
-    let p = peel-lent h operators rides presence minimums marks cs e in
-    let l = p .0 in
+    let l = peel-lent h operators rides presence minimums marks cs e .0 in
     let pairs : AcceptedPairs h operators rides = record {
       few-operators = l .few-operators;
       few-rides = l .few-rides;
@@ -43,19 +29,34 @@ lent-accepted h operators rides presence minimums marks cs e =
       rides-long = omega (arith, l .pairs-few, l .rides-long);
       ordered = l .ordered;
     } in
-    (pairs, l .presence-long, p .1, l .marks-long)
+    (pairs, l .presence-long, l .minimums-long, l .marks-long)
 
 module _ (h : Head) (operators rides presence minimums marks : List ℕ) where
   -- 3 of a peel
   abbrev short-parts : Bool
-  short-parts = cover-short h operators rides presence marks || refused-3 (h .rides) minimums
+  short-parts = peel-short h operators rides presence minimums marks
 
-  -- what `short_peel` gives, by what `short_cover` does
-  pub short-cover : cover-short h operators rides presence marks ≡ true → true ≡ short-parts
-  short-cover e = rw e
+  -- what `short_peel` gives, part by part
+  pub short-operators : length operators < pair-places h → true ≡ short-parts
+  short-operators o = rw (lt-ltb (length operators) (pair-places h) o)
 
-  pub long-cover : cover-short h operators rides presence marks ≡ false → refused-3 (h .rides) minimums ≡ short-parts
-  long-cover e = rw e
+  module _ (o : pair-places h ≤ length operators) where
+    pub short-rides : length rides < pair-places h → true ≡ short-parts
+    short-rides r = rw (le-ltb (length operators) (pair-places h) o, lt-ltb (length rides) (pair-places h) r)
+
+    module _ (r : pair-places h ≤ length rides) where
+      pub short-presence : length presence < mark-places h → true ≡ short-parts
+      short-presence p =
+          rw (le-ltb (length operators) (pair-places h) o, le-ltb (length rides) (pair-places h) r, lt-ltb (length presence) (mark-places h) p)
+
+      module _ (p : mark-places h ≤ length presence) where
+        pub short-minimums : length minimums < h .rides → true ≡ short-parts
+        short-minimums n =
+            rw (le-ltb (length operators) (pair-places h) o, le-ltb (length rides) (pair-places h) r, le-ltb (length presence) (mark-places h) p, lt-ltb (length minimums) (h .rides) n)
+
+        pub short-marks : h .rides ≤ length minimums → ltb (length marks) (mark-places h) ≡ short-parts
+        short-marks n =
+            rw (le-ltb (length operators) (pair-places h) o, le-ltb (length rides) (pair-places h) r, le-ltb (length presence) (mark-places h) p, le-ltb (length minimums) (h .rides) n)
 
   -- what `short_peel` and `table_number` give
   pub lent-table : (short : Bool) → short ≡ short-parts → (k : ℕ) → k ≡ first-number (table-cases h short operators rides) → k ≡ first-number (peel-cases h operators rides presence minimums marks)
@@ -85,23 +86,7 @@ module _ (h : Head) (operators rides presence minimums marks : List ℕ) where
       pub marks-long : mark-places h ≤ length marks
       marks-long = lent-accepted h operators rides presence minimums marks [] (sym table ∙ z) .3
 
--- ---- 3 of a cover, and 12 of a peel
-
-module _ (h : Head) (operators rides presence marks : List ℕ) where
-  pub cover-operators : length operators < pair-places h → true ≡ cover-short h operators rides presence marks
-  cover-operators l = rw (lt-ltb (length operators) (pair-places h) l)
-
-  pub cover-rides : pair-places h ≤ length operators → length rides < pair-places h → true ≡ cover-short h operators rides presence marks
-  cover-rides k l = rw (le-ltb (length operators) (pair-places h) k, lt-ltb (length rides) (pair-places h) l)
-
-  module _ (k : pair-places h ≤ length operators) (l : pair-places h ≤ length rides) where
-    pub cover-presence : length presence < mark-places h → true ≡ cover-short h operators rides presence marks
-    cover-presence p =
-        rw (le-ltb (length operators) (pair-places h) k, le-ltb (length rides) (pair-places h) l, lt-ltb (length presence) (mark-places h) p)
-
-    pub cover-marks : mark-places h ≤ length presence → ltb (length marks) (mark-places h) ≡ cover-short h operators rides presence marks
-    cover-marks p =
-        rw (le-ltb (length operators) (pair-places h) k, le-ltb (length rides) (pair-places h) l, le-ltb (length presence) (mark-places h) p)
+-- ---- 12
 
 module _ (h : Head) (marks : List ℕ) where
   pub bad-mark : (i : ℕ) → i < mark-places h → 1 < getD marks i 0 → true ≡ refused-12 h marks

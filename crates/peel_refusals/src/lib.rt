@@ -1,22 +1,24 @@
 // Document 01's numbers of a peel, and of a cover found by one: the lowest that applies, 0 if none does.
 ghost use mathlib.Core.Path.{_≡_};
-ghost use mathlib.Core.Bool.{_||_};
 ghost use Prim.Native.Nat.{_≤_};
 ghost use lib.ListN.{length};
 ghost use Rattle.model.specs.Layout.{mark-places};
-ghost use Rattle.model.specs.Refusal.{refused-3, refused-12, first-number, cover-short, peel-cases, peel-refusal};
+ghost use Rattle.model.specs.Refusal.{refused-12, first-number, peel-short, peel-cases, peel-refusal};
 use model::Head;
 use refusals::table_number;
 
-// Whether a pair array is shorter than operators × rides, or the presence words or the marks than operators + rides.
-fn short_cover(
+// Whether a pair array is shorter than operators × rides, the presence words or the marks than operators + rides, or the minimums than rides.
+fn short_peel(
     head: Head,
     operators: &[u16],
     rides: &[u16],
     presence: &[u16],
+    minimums: &[u16],
     marks: &[u16],
 ) -> bool
-    ensures { λ r. ⌜ r ≡ cover-short head (now (operators .entry)) (now (rides .entry)) (now (presence .entry)) (now (marks .entry)) ⌝ }
+    ensures { λ r. ⌜
+        r ≡ peel-short head (now (operators .entry)) (now (rides .entry)) (now (presence .entry)) (now (minimums .entry)) (now (marks .entry))
+        ⌝ }
 {
     let n = head.operators as usize;
     let m = head.rides as usize;
@@ -30,29 +32,10 @@ fn short_cover(
     if presence.len() < n + m {
         return true;
     }
-    marks.len() < n + m
-}
-
-// The same, or the minimums shorter than rides.
-fn short_peel(
-    head: Head,
-    operators: &[u16],
-    rides: &[u16],
-    presence: &[u16],
-    minimums: &[u16],
-    marks: &[u16],
-) -> bool
-    ensures { λ r. ⌜
-        r
-        ≡
-        (cover-short head (now (operators .entry)) (now (rides .entry)) (now (presence .entry)) (now (marks .entry)) ||
-        refused-3 (head .rides) (now (minimums .entry)))
-        ⌝ }
-{
-    if short_cover(head, operators, rides, presence, marks) {
+    if minimums.len() < m {
         return true;
     }
-    minimums.len() < head.rides as usize
+    marks.len() < n + m
 }
 
 // Whether a mark in use is not 0 or 1.

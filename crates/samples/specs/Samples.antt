@@ -1,6 +1,6 @@
 -- Document 01, Samples on that board: those with a star, one table. Each row has what the definitions give, and what document 01 says.
 -- The last row, "Built at stamp 5", has no star. Further tables have limits of 0, previews, revisions and presence: document 02, 2.1 to 2.4;
--- lists of limits; limits by crowd: 2.6; and minimums: 2.7.
+-- lists of limits; limits by crowd: 2.6; minimums: 2.7; and both: 2.8.
 use mathlib.Core.Path.{_≡_}
 use mathlib.Core.List.{List, [], _∷_, _++_}
 use Prim.Native.Nat.{ℕ, _-_, _*_}
@@ -348,10 +348,11 @@ abbrev looked-up : Bands → ℕ → List ℕ
 looked-up t guests =
     let o = board-crowd-limits t guests in o .code ∷ o .alpha ∷ o .beta ∷ []
 
--- what a cover for a guest count gives on document 01's board with these presence words, from so many marks of 7
+-- what a cover for a guest count gives on document 01's board with these presence words and without minimums, from so many marks of 7
 abbrev crowd-asked : List ℕ → Bands → ℕ → ℕ → List ℕ
 crowd-asked presence t guests places =
-    marked-and-counted (board-crowd-cover (table .head) (table .part Operators) (table .part Rides) presence t guests (replicate places 7))
+    marked-and-counted
+    (board-crowd-cover (table .head) (table .part Operators) (table .part Rides) presence t guests (replicate 3 0) (replicate places 7))
 
 -- three bands, the lowest in the middle, the one of guest count 0 alone
 abbrev three : Bands
@@ -460,6 +461,37 @@ minimum-samples =
     (own-peeled (replicate 3 0) (replicate 7 1) 1 3 7, 0 ∷ 1 ∷ 3 ∷ 1 ∷ 1 ∷ 1 ∷ 0 ∷ 0 ∷ 1 ∷ 0 ∷ []) ∷
     (own-peeled (2 ∷ 2 ∷ 0 ∷ []) (1 ∷ 1 ∷ 0 ∷ 1 ∷ 1 ∷ 1 ∷ 1 ∷ []) 1 3 7, 0 ∷ 1 ∷ 2 ∷ 1 ∷ 1 ∷ 0 ∷ 0 ∷ 1 ∷ 1 ∷ 0 ∷ []) ∷
     (own-peeled (2 ∷ 0 ∷ []) (replicate 7 1) 1 3 7, 3 ∷ 0 ∷ 0 ∷ replicate 7 1) ∷
+    []
+
+-- what a cover for a guest count with minimums gives on document 01's board, with everybody present and a number of pairs of its own
+abbrev both-asked : Bands → ℕ → List ℕ → ℕ → List ℕ
+both-asked t guests minimums pairs =
+    marked-and-counted
+    (board-crowd-cover (record { operators = 4; rides = 3; pairs = pairs }) (table .part Operators) (table .part Rides) (replicate 7 1) t guests minimums (replicate 8 7))
+
+-- the same by a table of one band with limits (α, β), as it is with no minimum and with these
+abbrev before-and-after : ℕ → ℕ → List ℕ → List ℕ
+before-and-after α β minimums =
+    let t = of-bands (from-to 0 20000 α β ∷ []) in both-asked t 0 (replicate 3 0) 7 ++ both-asked t 0 minimums 7
+
+-- crowd table and own minimum, by hand on document 01's board, whose rides have 2, 3 and 2 operators.
+-- Document 02's: with (1,3) and minimum 2 at ride 0 the rides were 1 and are 0 and 1, with operators 0, 1, 2 both times. With (1,2) and minimum 4 at
+-- ride 1 the rides were all and are 0 and 2, with all operators both times. A minimum equal to the band's β changes nothing.
+-- By three bands: in (1,3) minimum 2 at ride 2 lets it run, and in (2,2) minimum 1, with operator 2; in (0,0) minimum 4 at ride 1 is held to.
+-- The eighth mark stays, and words behind the rides' minimums aren't read.
+-- A list of two is 3, also where the table is refused and where 4 applies; that comes before 17, which comes with a list that is long enough.
+unfoldable pub both-samples : List (List ℕ × List ℕ)
+both-samples =
+    (before-and-after 1 3 (2 ∷ 0 ∷ 0 ∷ []), 0 ∷ 3 ∷ 1 ∷ 1 ∷ 1 ∷ 1 ∷ 0 ∷ 0 ∷ 1 ∷ 0 ∷ 7 ∷ 0 ∷ 3 ∷ 2 ∷ 1 ∷ 1 ∷ 1 ∷ 0 ∷ 1 ∷ 1 ∷ 0 ∷ 7 ∷ []) ∷
+    (before-and-after 1 2 (0 ∷ 4 ∷ 0 ∷ []), 0 ∷ 4 ∷ 3 ∷ 1 ∷ 1 ∷ 1 ∷ 1 ∷ 1 ∷ 1 ∷ 1 ∷ 7 ∷ 0 ∷ 4 ∷ 2 ∷ 1 ∷ 1 ∷ 1 ∷ 1 ∷ 1 ∷ 0 ∷ 1 ∷ 7 ∷ []) ∷
+    (both-asked three 50 (3 ∷ 0 ∷ 3 ∷ []) 7, 0 ∷ 3 ∷ 1 ∷ 1 ∷ 1 ∷ 1 ∷ 0 ∷ 0 ∷ 1 ∷ 0 ∷ 7 ∷ []) ∷
+    (both-asked three 50 (0 ∷ 0 ∷ 2 ∷ 9 ∷ []) 7, 0 ∷ 4 ∷ 2 ∷ 1 ∷ 1 ∷ 1 ∷ 1 ∷ 0 ∷ 1 ∷ 1 ∷ 7 ∷ []) ∷
+    (both-asked three 101 (0 ∷ 0 ∷ 1 ∷ []) 7, 0 ∷ 3 ∷ 3 ∷ 1 ∷ 1 ∷ 1 ∷ 0 ∷ 1 ∷ 1 ∷ 1 ∷ 7 ∷ []) ∷
+    (both-asked three 0 (0 ∷ 4 ∷ 0 ∷ []) 7, 0 ∷ 4 ∷ 2 ∷ 1 ∷ 1 ∷ 1 ∷ 1 ∷ 1 ∷ 0 ∷ 1 ∷ 7 ∷ []) ∷
+    (both-asked three 50 (2 ∷ 2 ∷ []) 7, 3 ∷ 0 ∷ 0 ∷ replicate 8 7) ∷
+    (both-asked touching 0 (2 ∷ 2 ∷ []) 13, 3 ∷ 0 ∷ 0 ∷ replicate 8 7) ∷
+    (both-asked touching 0 (2 ∷ 2 ∷ 2 ∷ []) 13, 4 ∷ 0 ∷ 0 ∷ replicate 8 7) ∷
+    (both-asked touching 0 (2 ∷ 2 ∷ 2 ∷ []) 7, 17 ∷ 0 ∷ 0 ∷ replicate 8 7) ∷
     []
 
 -- in each row of a table the two lists are equal

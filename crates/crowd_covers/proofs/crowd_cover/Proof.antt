@@ -6,9 +6,6 @@ use Rattle.crowd_covers.proofs.Outcomes.{refused-board, accepted, refus
 use Rattle.crowd_covers.proofs.crowd_cover.Statement.{statement}
 use Rattle.crowd_covers.proofs.crowd_cover.Tie as tie
 
-slice-aggregate-lent-number : tie.Need-slice-aggregate-lent-number
-slice-aggregate-lent-number c = search needs
-
 lent-number-requires : tie.Need-lent-number-requires
 lent-number-requires c κs = search needs
 
@@ -20,7 +17,7 @@ same-length c = search needs
 
 returns : tie.Need-returns
 returns c = let a = c .before .before .before .before .before .before .before .before .before .args in
-    refused-board (a .head) (a .operators .now) (a .rides .now) (a .presence .now) _ (a .guests) (a .marks .now) _ (c .before .before .lent-number .ensures) (omega arith) _ (c .refused .ensures)
+    refused-board (a .head) (a .operators .now) (a .rides .now) (a .presence .now) _ (a .guests) (a .minimums .now) (a .marks .now) _ (c .before .before .lent-number .ensures) (omega arith) _ (c .refused .ensures)
 
 words-requires : tie.Need-words-requires
 words-requires c κs = search needs
@@ -36,27 +33,23 @@ same-length-2 c = search needs
 
 returns-2 : tie.Need-returns-2
 returns-2 c = let a = c .before .before .before .before .before .before .before .before .before .before .before .before .before .before .args in
-    refused-bands (a .head) (a .operators .now) (a .rides .now) (a .presence .now) _ (a .guests) (a .marks .now) _ (c .before .before .before .before .before .before .before .lent-number .ensures) (omega arith) _ (c .before .before .before .find .ensures _ refl (c .before .before .before .before .before .words .ensures)) (omega arith) _ (c .refused2 .ensures)
-
-slice-aggregate-cover : tie.Need-slice-aggregate-cover
-slice-aggregate-cover c = search needs
+    refused-bands (a .head) (a .operators .now) (a .rides .now) (a .presence .now) _ (a .guests) (a .minimums .now) (a .marks .now) _ (c .before .before .before .before .before .before .before .lent-number .ensures) (omega arith) _ (c .before .before .before .find .ensures _ refl (c .before .before .before .before .before .words .ensures)) (omega arith) _ (c .refused2 .ensures)
 
 cover-requires : tie.Need-cover-requires
-cover-requires c κs = let a = c .before .before .before .before .before .before .before .before .before .before .before .before .before .before .before .args in
-    accepted (a .head) (a .operators .now) (a .rides .now) (a .presence .now) (a .bands) (a .guests) (a .marks .now) _ (c .before .before .before .before .before .before .before .before .lent-number .ensures) (omega arith)
+cover-requires c κs = let a = c .before .before .before .before .before .before .before .before .before .before .before .before .before .before .args in
+    accepted (a .head) (a .operators .now) (a .rides .now) (a .presence .now) (a .bands) (a .guests) (a .minimums .now) (a .marks .now) _ (c .before .before .before .before .before .before .before .lent-number .ensures) (omega arith)
 
 same-length-3 : tie.Need-same-length-3
 same-length-3 c = search needs
 
 returns-3 : tie.Need-returns-3
-returns-3 c = let a = c .before .before .before .before .before .before .before .before .before .before .before .before .before .before .before .before .before .before .args in
-    found (a .head) (a .operators .now) (a .rides .now) (a .presence .now) _ (a .guests) (a .marks .now) _ (c .before .before .before .before .before .before .before .before .before .before .before .lent-number .ensures) (omega arith) _ (c .before .before .before .before .before .before .before .find .ensures _ refl (c .before .before .before .before .before .before .before .before .before .words .ensures)) (omega arith) _ (c .before .before .cover .ensures)
+returns-3 c = let a = c .before .before .before .before .before .before .before .before .before .before .before .before .before .before .before .before .before .args in
+    found (a .head) (a .operators .now) (a .rides .now) (a .presence .now) _ (a .guests) (a .minimums .now) (a .marks .now) _ (c .before .before .before .before .before .before .before .before .before .before .lent-number .ensures) (omega arith) _ (c .before .before .before .before .before .before .find .ensures _ refl (c .before .before .before .before .before .before .before .before .words .ensures)) (omega arith) _ (c .before .before .cover .ensures)
 
 pub crowd-cover-spec : {M : Type 1} → statement M
 crowd-cover-spec =
     tie.close
     (tie.spec
-    slice-aggregate-lent-number
     lent-number-requires
     refused-requires
     same-length
@@ -66,7 +59,6 @@ crowd-cover-spec =
     refused-requires-2
     same-length-2
     returns-2
-    slice-aggregate-cover
     cover-requires
     same-length-3
     returns-3)

@@ -2,9 +2,8 @@
 use borrow.Author.Needs.{needs}
 use mathlib.Core.Path.{sym, _∙_, subst}
 use lib.Dec.{T}
-use Rattle.model.specs.Refusal.{refused-3, cover-short}
-use Rattle.model.proofs.Count.{or-left}
-use Rattle.peel_refusals.proofs.Chain.{cover-long, lent-table}
+use Rattle.model.proofs.Refusal.{long-parts}
+use Rattle.peel_refusals.proofs.Chain.{lent-table}
 use Rattle.peel_refusals.proofs.lent_number.Statement.{statement}
 use Rattle.peel_refusals.proofs.lent_number.Tie as tie
 
@@ -13,7 +12,7 @@ short-peel-requires c κs = search needs
 
 table-number-requires : tie.Need-table-number-requires
 table-number-requires c κs = let a = c .before .before .before .before .before .before .args in
-    λ e. cover-long (a .head) (a .operators .now) (a .rides .now) (a .presence .now) (a .marks .now) (λ t. subst T (sym (c .short-peel .ensures) ∙ e) (or-left (cover-short (a .head) (a .operators .now) (a .rides .now) (a .presence .now) (a .marks .now)) (refused-3 (a .head .rides) (a .minimums .now)) t))
+    λ e. let long = long-parts (a .head) (a .operators .now) (a .rides .now) (a .presence .now) (a .minimums .now) (a .marks .now) (λ t. subst T (sym (c .short-peel .ensures) ∙ e) t) in (long .0, long .1)
 
 returns : tie.Need-returns
 returns c = let a = c .before .before .before .before .before .before .before .args in
