@@ -10,11 +10,11 @@
  * ALPHA may be 0, no limit. BETA is from 1: under no limit each ride would get a permit, also one without operators.
  *
  * A line of the trace is `KIND OPERATOR RIDE REVISION STAMP`, all numbers, kind 1 a grant, 2 a withdrawal, 3 operator
- * on, 4 operator off, 5 ride in, 6 ride out; what follows a # is a comment. After the last message the permits for a
- * quiet and for a busy guest count are printed, by a table of bands, and the answer to a table with an overlap; then
- * the permits where rides have minimums, and the answer to a list with a ride too few. At the end the same messages are
- * given to a second board in the order of their stamps and revisions, as one message list. Exit status 0 says that the
- * two boards are the same, word for word.
+ * on, 4 operator off, 5 ride in, 6 ride out; what follows a # is a comment. After the last message the permits where
+ * rides have minimums are printed, first by own covers; then by crowd covers, for no guest, for a quiet and for a busy
+ * guest count, where no ride has a minimum and where some have; and the answers to a list with a ride too few and to a
+ * table with an overlap. At the end the same messages are given to a second board in the order of their stamps and
+ * revisions, as one message list. Exit status 0 says that the two boards are the same, word for word.
  */
 #include <stdio.h>
 #include <stdlib.h>
@@ -38,8 +38,11 @@ static Board arriving = BOARD_OVER(arriving_memory, OPERATORS, RIDES, PAIRS);
 static Board in_order = BOARD_OVER(in_order_memory, OPERATORS, RIDES, PAIRS);
 static Board spare = BOARD_OVER(spare_memory, OPERATORS, RIDES, 0);
 
-/* Limits by crowd: first and last guest count, alpha, beta. In the second table both bands have guest count 8,000. */
-static const BoardBand day[] = {{8001, 20000, 2, 3}, {0, 8000, 1, 2}};
+/*
+ * Limits by crowd: first and last guest count, alpha, beta. Without guests a ride that has no minimum of its own has no
+ * limit, and gets no permit. In the second table both bands have guest count 8,000.
+ */
+static const BoardBand day[] = {{8001, 20000, 2, 3}, {1, 8000, 1, 2}, {0, 0, 1, 0}};
 static const BoardBand overlapping[] = {{8000, 20000, 2, 3}, {0, 8000, 1, 2}};
 
 /* Minimums of the rides, 0 for none. Ride 2 as a coaster needs four operators, ride 0 as a carousel two. */
@@ -61,15 +64,12 @@ static void check(uint16_t code) {
         stop(board_text(code));
 }
 
-static void check_beta(uint16_t beta) {
-    if (beta == 0)
-        stop("beta is 0, no limit: a permit needs a limit from 1");
-}
-
-static void print_rides(const char *when) {
+/* A permit needs a mark under a limit from 1: a minimum of the ride, or beta. */
+static void print_rides(const char *when, const uint16_t *minimums, uint16_t beta) {
     printf("  %-8s", when);
     for (unsigned ride = 0; ride < RIDES; ride++) {
-        int permit = marks[BOARD_RIDE_MARK(OPERATORS, ride)] == 1;
+        int limited = minimums[ride] != 0 || beta != 0;
+        int permit = limited && marks[BOARD_RIDE_MARK(OPERATORS, ride)] == 1;
         printf("   ride %u: %9s", ride, permit ? "permit" : "no permit");
     }
     printf("\n");
@@ -83,26 +83,11 @@ static void print_permits(const char *when, const Board *board, uint16_t alpha, 
     check(board_peel_on(board, none, RIDES, peeled, BOARD_LENGTH(peeled), alpha, beta, OPERATORS + RIDES).code);
     if (memcmp(marks, peeled, sizeof marks) != 0)
         stop("the board is damaged: its index is not that of its pairs that count");
-    print_rides(when);
+    print_rides(when, none, beta);
 }
 
-/* Whether each ride gets its dispatch permit at a guest count. A crowd cover does not use the index either. */
-static void print_crowd(const Board *board, BoardBands bands, uint16_t guests) {
-    BoardCrowdLimits limits = board_crowd_limits(bands, guests);
-    if (limits.code != BOARD_DONE) {
-        printf("guests %u: %u, %s\n", guests, limits.code, board_text(limits.code));
-        return;
-    }
-    check_beta(limits.beta);
-    check(board_crowd_cover_on(board, bands, guests, marks, BOARD_LENGTH(marks)).code);
-    printf("guests %u: limits (%u,%u)\n", guests, limits.alpha, limits.beta);
-    print_rides("permits");
-}
-
-/* Whether each ride gets its dispatch permit with these minimums. An own cover does not use the index either. */
-static void print_own(const Board *board, const uint16_t *minimums, size_t length, uint16_t alpha, uint16_t beta) {
-    check_beta(beta);
-    BoardCounts counts = board_own_cover_on(board, minimums, length, alpha, beta, marks, BOARD_LENGTH(marks));
+/* The minimums of a cover, and the permits of its marks or why there are none. */
+static void print_cover(BoardCounts counts, const uint16_t *minimums, size_t length, uint16_t alpha, uint16_t beta) {
     printf("minimums");
     for (size_t ride = 0; ride < length; ride++)
         printf(" %u", minimums[ride]);
@@ -111,7 +96,22 @@ static void print_own(const Board *board, const uint16_t *minimums, size_t lengt
         return;
     }
     printf(": limits (%u,%u)\n", alpha, beta);
-    print_rides("permits");
+    print_rides("permits", minimums, beta);
+}
+
+/* Whether each ride gets its dispatch permit with these minimums. An own cover does not use the index. */
+static void print_own(const Board *board, const uint16_t *minimums, size_t length, uint16_t alpha, uint16_t beta) {
+    BoardCounts counts = board_own_cover_on(board, minimums, length, alpha, beta, marks, BOARD_LENGTH(marks));
+    print_cover(counts, minimums, length, alpha, beta);
+}
+
+/* Whether each ride gets it at a guest count. A crowd cover does not use the index either. */
+static void print_crowd(const Board *board, BoardBands bands, uint16_t guests, const uint16_t *minimums,
+                        size_t length) {
+    BoardCounts counts = board_crowd_cover_on(board, bands, guests, minimums, length, marks, BOARD_LENGTH(marks));
+    BoardCrowdLimits limits = board_crowd_limits(bands, guests);
+    printf("guests %u, ", guests);
+    print_cover(counts, minimums, length, limits.alpha, limits.beta);
 }
 
 /* Which operators are on and which rides are in: those whose presence word is 1. */
@@ -260,7 +260,8 @@ int main(int count, char **words) {
         stop("usage: controller TRACE ALPHA BETA");
     size_t messages = read_trace(words[1]);
     uint16_t alpha = read_limit(words[2]), beta = read_limit(words[3]);
-    check_beta(beta);
+    if (beta == 0)
+        stop("beta is 0, no limit: a permit needs a limit from 1");
 
     check(board_build_on(&arriving, START));
     printf("board: %u operators, %u rides, %u pairs, built at stamp %u; limits (%u,%u)\n", arriving.head.operators,
@@ -276,12 +277,17 @@ int main(int count, char **words) {
         if (is_for_operator_or_ride(trace[i]))
             print_presence(&arriving);
     }
-    print_crowd(&arriving, board_bands(day, BOARD_LENGTH(day)), 1500);
-    print_crowd(&arriving, board_bands(day, BOARD_LENGTH(day)), 18000);
-    print_crowd(&arriving, board_bands(overlapping, BOARD_LENGTH(overlapping)), 18000);
     print_own(&arriving, coaster, RIDES, 2, 2);
     print_own(&arriving, carousel, RIDES, 2, 3);
     print_own(&arriving, carousel, RIDES - 1, 2, 3);
+    BoardBands bands = board_bands(day, BOARD_LENGTH(day));
+    print_crowd(&arriving, bands, 0, carousel, RIDES);
+    print_crowd(&arriving, bands, 1500, none, RIDES);
+    print_crowd(&arriving, bands, 1500, coaster, RIDES);
+    print_crowd(&arriving, bands, 18000, none, RIDES);
+    print_crowd(&arriving, bands, 18000, carousel, RIDES);
+    print_crowd(&arriving, bands, 18000, carousel, RIDES - 1);
+    print_crowd(&arriving, board_bands(overlapping, BOARD_LENGTH(overlapping)), 18000, none, RIDES);
 
     check(board_build_on(&in_order, START));
     qsort(trace, messages, sizeof trace[0], by_stamp);

@@ -2,9 +2,9 @@
  * The plain calls beside the functions over a Board: both ways on equal memory, with parts as long as needed, with one
  * part after another too short by a place, with limits of 0, and with minimums. Query, peel, own cover and crowd cover
  * come twice: after the build, with everybody on and in, and after the list, with operator 1 off and ride 2 out. The
- * crowd cover finds the limits of the query in its table, and knows no minimums either. At the end come look-ups in
- * tables of no band to too many. Prints what the calls answer. Exit status 0 says that each answer and every lent word
- * was the same both ways.
+ * crowd cover finds the limits of the query in its table, and has the minimums of the own cover. Then come the crowd
+ * covers of document 02 without and with minimums, and look-ups in tables of no band to too many. Prints what the calls
+ * answer. Exit status 0 says that each answer and every lent word was the same both ways.
  */
 #include <stdio.h>
 #include <string.h>
@@ -49,7 +49,7 @@ typedef struct Lengths {
     size_t operators, rides, stamps, revisions, index, presence_stamps, presence_revisions, presence;
 } Lengths;
 
-/* The lengths that are lent, in places, the limits of query and peel, and the minimums of peel and own cover. */
+/* The lengths that are lent, in places, the limits of query, peel and covers, and the minimums of peel and covers. */
 typedef struct Given {
     const char *title;
     Lengths board, spare;
@@ -90,6 +90,11 @@ static const Given rows[] = {
     {"beta 2, minimum 4 at ride 1", NEEDED, NEEDED, 7, 7, 3, 1, 2, {0, 4, 0}},
     {"beta 0, minimums 3 2 1", NEEDED, NEEDED, 7, 7, 3, 1, 0, {3, 2, 1}},
 };
+
+/* Band limits and minimums: document 02's crowd covers on document 01's board, each without minimums first. */
+static const struct {
+    uint16_t alpha, beta, minimums[BOARD_MINIMUM_PLACES(RIDES)];
+} samples[] = {{1, 3, NONE}, {1, 3, {2, 0, 0}}, {1, 2, NONE}, {1, 2, {0, 4, 0}}};
 
 /* What the calls answer, and the lent words outside the storage. */
 typedef struct Outcome {
@@ -157,9 +162,9 @@ static Board lend(Board board, Lengths n) {
     return board;
 }
 
-/* A table with the limits of the query for this guest count and more, and with others for fewer. */
-static BoardBands two_bands(const Given *given) {
-    BoardBand two[] = {{GUESTS, BOARD_GUESTS_MOST, given->alpha, given->beta}, {0, GUESTS - 1, 9, 9}};
+/* A table with these limits for this guest count and more, and with others for fewer. */
+static BoardBands two_bands(uint16_t alpha, uint16_t beta) {
+    BoardBand two[] = {{GUESTS, BOARD_GUESTS_MOST, alpha, beta}, {0, GUESTS - 1, 9, 9}};
     return board_bands(two, BOARD_LENGTH(two));
 }
 
@@ -173,7 +178,8 @@ static Outcome over_a_board(const Given *given) {
                              given->beta, 2);
     out.own = board_own_cover_on(&board, given->minimums, given->minimums_length, given->alpha, given->beta,
                                  out.own_marks, given->marks);
-    out.crowd = board_crowd_cover_on(&board, two_bands(given), GUESTS, out.crowded, given->marks);
+    out.crowd = board_crowd_cover_on(&board, two_bands(given->alpha, given->beta), GUESTS, given->minimums,
+                                     given->minimums_length, out.crowded, given->marks);
     out.preview = board_preview_on(&board, grant, &spare);
     out.spare_head = spare.head;
     out.message = board_message_on(&board, grant);
@@ -183,7 +189,8 @@ static Outcome over_a_board(const Given *given) {
                                    given->alpha, given->beta, 2);
     out.own_again = board_own_cover_on(&board, given->minimums, given->minimums_length, given->alpha, given->beta,
                                        out.own_marks_again, given->marks);
-    out.crowd_again = board_crowd_cover_on(&board, two_bands(given), GUESTS, out.crowded_again, given->marks);
+    out.crowd_again = board_crowd_cover_on(&board, two_bands(given->alpha, given->beta), GUESTS, given->minimums,
+                                           given->minimums_length, out.crowded_again, given->marks);
     out.head = board.head;
     return out;
 }
@@ -204,7 +211,8 @@ static Outcome plainly(const Given *given) {
                               given->minimums, given->minimums_length, given->alpha, given->beta, out.own_marks,
                               given->marks);
     out.crowd = board_crowd_cover(out.head, other.operators, n.operators, other.rides, n.rides, other.presence,
-                                  n.presence, two_bands(given), GUESTS, out.crowded, given->marks);
+                                  n.presence, two_bands(given->alpha, given->beta), GUESTS, given->minimums,
+                                  given->minimums_length, out.crowded, given->marks);
     out.preview = board_preview(
         out.head, other.operators, n.operators, other.rides, n.rides, other.stamps, n.stamps, other.revisions,
         n.revisions, other.index, n.index, other.presence_stamps, n.presence_stamps, other.presence_revisions,
@@ -229,7 +237,8 @@ static Outcome plainly(const Given *given) {
                                     n.presence, given->minimums, given->minimums_length, given->alpha, given->beta,
                                     out.own_marks_again, given->marks);
     out.crowd_again = board_crowd_cover(out.head, other.operators, n.operators, other.rides, n.rides, other.presence,
-                                        n.presence, two_bands(given), GUESTS, out.crowded_again, given->marks);
+                                        n.presence, two_bands(given->alpha, given->beta), GUESTS, given->minimums,
+                                        given->minimums_length, out.crowded_again, given->marks);
     return out;
 }
 
@@ -249,6 +258,29 @@ static void print_outcome(const char *title, const Outcome *out, int same) {
     printf("   %s\n", same ? "the same" : "ANOTHER");
 }
 
+/* Who is in document 02's crowd covers. */
+static void print_samples(void) {
+    uint16_t marks[MARKS] = {0};
+    Board board = BOARD_OVER(memory, OPERATORS, RIDES, PAIRS);
+    memcpy(&memory, &table, sizeof memory);
+    board_build_on(&board, 10);
+    for (size_t i = 0; i < BOARD_LENGTH(samples); i++) {
+        const uint16_t *minimums = samples[i].minimums;
+        BoardBands two = two_bands(samples[i].alpha, samples[i].beta);
+        BoardCounts counts = board_crowd_cover_on(&board, two, GUESTS, minimums, RIDES, marks, MARKS);
+        printf("crowd cover (%u,%u), minimums %u %u %u: %u, operators", samples[i].alpha, samples[i].beta, minimums[0],
+               minimums[1], minimums[2], counts.code);
+        for (unsigned u = 0; u < OPERATORS; u++)
+            if (marks[BOARD_OPERATOR_MARK(u)] == 1)
+                printf(" %u", u);
+        printf(", rides");
+        for (unsigned v = 0; v < RIDES; v++)
+            if (marks[BOARD_RIDE_MARK(OPERATORS, v)] == 1)
+                printf(" %u", v);
+        printf("\n");
+    }
+}
+
 int main(void) {
     int differs = 0;
     printf("%-30s build  query: marked  peel: steps  own: marked  crowd: marked  preview: words  message: words", "");
@@ -264,6 +296,7 @@ int main(void) {
         differs |= !same;
         print_outcome(rows[i].title, &a, same);
     }
+    print_samples();
     Board nobody = BOARD_OVER(empty, 0, 0, 0);
     printf("%-30s %5u\n", "0 x 0", board_build_on(&nobody, 10));
     for (size_t i = 0; i < BOARD_LENGTH(band_counts); i++) {

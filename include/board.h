@@ -29,18 +29,19 @@
  *     answer = board_message_on(&board, home);
  *     int on = board.presence[BOARD_OPERATOR_PRESENCE(17)] == BOARD_PRESENT;
  *
- * Limits by crowd: a band has a first and a last guest count, alpha and beta, and the cover for a guest count is that
- * for the limits of its band:
- *
- *     static const BoardBand list[] = {{0, 7999, 1, 2}, {8000, 20000, 2, 3}};
- *     BoardBands bands = board_bands(list, BOARD_LENGTH(list));
- *     counts = board_crowd_cover_on(&board, bands, guests, marks, BOARD_LENGTH(marks));
- *
  * Minimums: a ride may need more or fewer operators than beta says. Here ride 4 needs two and ride 5 five; 0 is none,
  * and every other ride needs beta, three:
  *
  *     static const uint16_t minimums[BOARD_MINIMUM_PLACES(60)] = {0, 0, 0, 0, 2, 5};
  *     counts = board_own_cover_on(&board, minimums, BOARD_LENGTH(minimums), 2, 3, marks, BOARD_LENGTH(marks));
+ *
+ * Limits by crowd: a band has a first and a last guest count, alpha and beta, and the cover for a guest count is that
+ * for the limits of its band. Rides 4 and 5 keep their own minimums, and every other ride needs the band's beta:
+ *
+ *     static const BoardBand list[] = {{0, 7999, 1, 2}, {8000, 20000, 2, 3}};
+ *     BoardBands bands = board_bands(list, BOARD_LENGTH(list));
+ *     counts = board_crowd_cover_on(&board, bands, guests, minimums, BOARD_LENGTH(minimums), marks,
+ *                                   BOARD_LENGTH(marks));
  *
  * The functions that end in _on lend a Board's parts to the plain calls, which take each part as a pointer to its first
  * place and the number of its places.
@@ -58,7 +59,7 @@
  * For firmware (docs/INTERFACE.md says more):
  * - x86-64, System V calling convention, SSE2 and no more; no use of the red zone below the stack pointer.
  * - Deepest stack in bytes, measured at 200 x 60 (docs/BENCHMARK.md): build 26,112, query 144, peel 26,336, own cover
- *   26,256, look-up 128, crowd cover 26,432, message 26,160, message list 26,256, preview 26,320.
+ *   26,256, look-up 128, crowd cover 26,336, message 26,160, message list 26,256, preview 26,320.
  * - No writable data; of the program it needs memcpy, memmove and memset at most.
  * - A reset in the middle of a call leaves a mixture of old and new words in what the call writes: build again from a
  *   pair table, and send the messages again. A preview writes the spare memory alone.
@@ -82,7 +83,7 @@ extern "C" {
 #endif
 
 /* The version of this header (docs/CHANGELOG.md), as a number to compare: 1.2.3 is 10203. */
-#define BOARD_VERSION_MAJOR 4
+#define BOARD_VERSION_MAJOR 5
 #define BOARD_VERSION_MINOR 0
 #define BOARD_VERSION_PATCH 0
 #define BOARD_VERSION (BOARD_VERSION_MAJOR * 10000 + BOARD_VERSION_MINOR * 100 + BOARD_VERSION_PATCH)
@@ -333,8 +334,8 @@ uint16_t board_build(BoardHead head, uint16_t *operators, size_t operators_lengt
  * counts 0. An index that is too short is 3 also where no level decides. A refusal leaves every lent word as it was.
  *
  * Never take a dispatch permit from beta 0: every ride that is in is then marked, also one that no operator is cleared
- * for. A permit needs a query, peel or cover with beta from 1. A query knows no minimums: where rides have them,
- * permits come from an own cover.
+ * for. A permit needs a query with beta from 1. A query knows no minimums: where rides have them, permits come from an
+ * own cover or a crowd cover.
  *
  * Index and presence words are those of one board, as its last build or message left them: the levels already leave out
  * the pairs of whoever is off or out. With presence words of another board, or with a word that was written without a
@@ -410,24 +411,26 @@ BoardCounts board_own_cover(BoardHead head, const uint16_t *operators, size_t op
 BoardCrowdLimits board_crowd_limits(BoardBands bands, uint16_t guests);
 
 /*
- * Crowd cover: who is in the cover for a guest count, the cover for the limits of its band, found by a peel from all
- * ones. A limit of 0 is no limit.
+ * Crowd cover: who is in the cover for a guest count, the cover with minimums under the limits of its band. The limit
+ * of an operator is the band's alpha. That of a ride is its own minimum, also where that is smaller than the band's
+ * beta, and the band's beta where it has none. A limit of 0 is no limit.
  *
- * Reads the head, the listed pairs, the presence words, the table and the guest count as a look-up does. It uses no
- * index, so that a damaged one does not matter, and the marks that come in are not read.
+ * Reads the head, the listed pairs, the presence words and the minimums as a peel does, the table and the guest count
+ * as a look-up does. It uses no index, so that a damaged one does not matter, and the marks that come in are not read.
  *
- * Writes a mark for each operator, then each ride, 1 for those in the cover and 0 for all others, as a query with these
- * limits does where the index is that of the board. Nobody who is off or out is marked, under limits of 0 neither.
+ * Writes the marks that board_own_cover writes with the band's alpha and beta and the same minimums. Where each minimum
+ * is 0 or the band's beta, they are those of a query with the band's limits, if the index is that of the board.
  *
  * Answers BOARD_DONE with the counts of operators and rides marked, or of 1 to 5 and 16 to 18 the lowest that applies,
  * with counts 0. A refusal leaves every lent word as it was.
  *
- * A crowd cover knows no minimums: the limits of the band hold for every ride. A dispatch permit needs a beta from 1:
- * look the limits up, and take no permit from a band with beta 0.
+ * A dispatch permit needs a limit from 1 for its ride: a minimum of its own, or a band with beta from 1. A look-up
+ * gives the band's beta.
  */
 BoardCounts board_crowd_cover(BoardHead head, const uint16_t *operators, size_t operators_length, const uint16_t *rides,
                               size_t rides_length, const uint16_t *presence, size_t presence_length, BoardBands bands,
-                              uint16_t guests, uint16_t *marks, size_t marks_length);
+                              uint16_t guests, const uint16_t *minimums, size_t minimums_length, uint16_t *marks,
+                              size_t marks_length);
 
 /*
  * Message: takes one message, if it is later than the last one that the board took for its pair, its operator or its
@@ -613,10 +616,12 @@ static inline BoardCounts board_own_cover_on(const Board *board, const uint16_t 
                            marks_length);
 }
 
-static inline BoardCounts board_crowd_cover_on(const Board *board, BoardBands bands, uint16_t guests, uint16_t *marks,
+static inline BoardCounts board_crowd_cover_on(const Board *board, BoardBands bands, uint16_t guests,
+                                               const uint16_t *minimums, size_t minimums_length, uint16_t *marks,
                                                size_t marks_length) {
     return board_crowd_cover(board->head, board->operators, board->operators_length, board->rides, board->rides_length,
-                             board->presence, board->presence_length, bands, guests, marks, marks_length);
+                             board->presence, board->presence_length, bands, guests, minimums, minimums_length, marks,
+                             marks_length);
 }
 
 static inline BoardAnswer board_message_on(Board *board, BoardMessage message) {
