@@ -194,7 +194,7 @@ pub fn build(
 /// Query: marks who is in cover (alpha, beta), and counts them. Nobody who is off or out by the presence words is marked. A
 /// limit of 0 is no limit: alpha 0 marks every operator who is on, and beta 0 every ride that is in, also one that no
 /// operator is cleared for. A dispatch permit needs a beta from 1. A query knows no minimums: where rides have them, permits
-/// come from an [`own_cover`].
+/// come from an [`own_cover`] or a [`crowd_cover`].
 ///
 /// Index and presence words are those of one board, as its last build or message left them. With words of another board
 /// the marks are no cover.
@@ -317,12 +317,12 @@ pub fn crowd_limits(bands: Bands, guests: u16) -> Result<Limits, Refusal> {
     Ok(Limits { alpha: limits.alpha, beta: limits.beta })
 }
 
-/// Crowd cover: marks the cover for a guest count, that for the limits of its band, and counts it as a query does. It is
-/// found from the pair arrays and the presence words; the marks that come in are not read. It knows no minimums: the limits
-/// of the band hold for every ride. Where the band's beta is 0 every ride that is in is marked, so that a dispatch permit
-/// needs a beta from 1.
+/// Crowd cover: marks the cover for a guest count, and counts it as a query does. It is the [`own_cover`] for the limits of
+/// the band: a ride's own minimum goes first, also where it is smaller than the band's beta. A dispatch permit needs a
+/// minimum of its ride, or a band with beta from 1.
 ///
-/// Refuses with 1 to 5, then as [`crowd_limits`] does.
+/// Refuses with 1 to 5 as an own cover does, then as [`crowd_limits`] does.
+#[allow(clippy::too_many_arguments)]
 pub fn crowd_cover(
     head: Head,
     operators: &[u16],
@@ -330,6 +330,7 @@ pub fn crowd_cover(
     presence: &[u16],
     bands: Bands,
     guests: u16,
+    minimums: &[u16],
     marks: &mut [u16],
 ) -> Result<Counts, Refusal> {
     let counts = unsafe {
@@ -343,6 +344,8 @@ pub fn crowd_cover(
             presence.len(),
             bands,
             guests,
+            minimums.as_ptr(),
+            minimums.len(),
             marks.as_mut_ptr(),
             marks.len(),
         )

@@ -138,6 +138,8 @@ extern "C" {
         presence_length: usize,
         bands: Bands,
         guests: u16,
+        minimums: *const u16,
+        minimums_length: usize,
         marks: *mut u16,
         marks_length: usize,
     ) -> Counts;

@@ -268,7 +268,7 @@ impl<'m> Board<'m> {
 
     /// Cover (alpha, beta), with marks of its own. A limit of 0 is no limit: alpha 0 takes in every operator who is on, beta 0
     /// every ride that is in, so that a dispatch permit needs a beta from 1. Minimums of rides don't count here: where there
-    /// are any, permits come from [`cover_with`](Board::cover_with).
+    /// are any, permits come from [`cover_with`](Board::cover_with) or [`cover_for`](Board::cover_for).
     pub fn cover(&self, alpha: u16, beta: u16) -> Result<Cover, Refusal> {
         let mut marks = [0; MARK_PLACES];
         let counts = self.query(alpha, beta, &mut marks)?;
@@ -316,15 +316,21 @@ impl<'m> Board<'m> {
         Ok(Cover { head: self.head, counts, marks })
     }
 
-    /// Crowd cover: writes the marks of the cover for a guest count, that for the limits of its band, and counts them. It does
-    /// not read the index, nor the marks that come in.
-    pub fn crowd_cover(&self, bands: Bands, guests: u16, marks: &mut [u16]) -> Result<Counts, Refusal> {
+    /// Crowd cover: writes the marks of the cover for a guest count, and counts them. It is the
+    /// [`own_cover`](Board::own_cover) for the limits of the band.
+    pub fn crowd_cover(
+        &self,
+        bands: Bands,
+        guests: u16,
+        minimums: &[u16],
+        marks: &mut [u16],
+    ) -> Result<Counts, Refusal> {
         let Parts { operators, rides, presence, .. } = &self.parts;
-        crowd_cover(self.head, operators, rides, presence, bands, guests, marks)
+        crowd_cover(self.head, operators, rides, presence, bands, guests, minimums, marks)
     }
 
-    /// The cover for a guest count, with marks of its own. A dispatch permit needs a band with beta from 1:
-    /// [`crowd_limits`](crate::crowd_limits) gives it.
+    /// The cover for a guest count, with marks of its own. A dispatch permit needs a minimum of its ride, or a band with beta
+    /// from 1: [`crowd_limits`](crate::crowd_limits) gives it.
     ///
     /// ```
     /// use board::{Band, Bands, Board, Memory};
@@ -334,13 +340,15 @@ impl<'m> Board<'m> {
     /// let quiet = Band { first: 0, last: 7_999, alpha: 1, beta: 1 };
     /// let busy = Band { first: 8_000, last: 20_000, alpha: 1, beta: 2 };
     /// let bands = Bands::new(&[quiet, busy]);
-    /// assert!(board.cover_for(bands, 1_500)?.rides().eq([0, 1]));
-    /// assert!(board.cover_for(bands, 18_000)?.rides().eq([0]));
+    /// assert!(board.cover_for(bands, 1_500, &[0, 0])?.rides().eq([0, 1]));
+    /// assert!(board.cover_for(bands, 1_500, &[0, 2])?.rides().eq([0]));
+    /// assert!(board.cover_for(bands, 18_000, &[0, 0])?.rides().eq([0]));
+    /// assert!(board.cover_for(bands, 18_000, &[0, 1])?.rides().eq([0, 1]));
     /// # Ok::<(), board::Refusal>(())
     /// ```
-    pub fn cover_for(&self, bands: Bands, guests: u16) -> Result<Cover, Refusal> {
+    pub fn cover_for(&self, bands: Bands, guests: u16, minimums: &[u16]) -> Result<Cover, Refusal> {
         let mut marks = [0; MARK_PLACES];
-        let counts = self.crowd_cover(bands, guests, &mut marks)?;
+        let counts = self.crowd_cover(bands, guests, minimums, &mut marks)?;
         Ok(Cover { head: self.head, counts, marks })
     }
 

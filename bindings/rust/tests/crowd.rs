@@ -1,20 +1,13 @@
 //! Limits by crowd: look-ups in tables of bands, which tables are refused, and whom the cover for a guest count marks.
 
+mod boards;
 mod lent;
 mod orders;
 
 use board::*;
+use boards::{built, every_choice, largest, HEAD, LENGTHS};
 use lent::Lent;
 use orders::orders;
-
-const PAIRS: [(u16, u16); 7] = [(0, 0), (0, 1), (1, 0), (1, 1), (2, 1), (2, 2), (3, 2)];
-const LENGTHS: [usize; 8] = [12, 12, 12, 12, 21, 7, 7, 7];
-const HEAD: Head = Head { operators: 4, rides: 3, pairs: 7 };
-
-/// Document 01's board, built at stamp 5.
-fn built(lent: &mut Lent) -> Board<'_> {
-    Board::build(lent.parts(), 4, 3, &PAIRS, 5).unwrap()
-}
 
 const fn band(first: u16, last: u16, alpha: u16, beta: u16) -> Band {
     Band { first, last, alpha, beta }
@@ -84,6 +77,7 @@ struct Loan {
     presence: Vec<u16>,
     bands: Bands,
     guests: u16,
+    minimums: Vec<u16>,
     marks: Vec<u16>,
 }
 
@@ -92,7 +86,8 @@ impl Loan {
         let mut lent = Lent::new(LENGTHS.map(|length| length + 2));
         built(&mut lent);
         let Lent { operators, rides, presence, .. } = lent;
-        Loan { head: HEAD, operators, rides, presence, bands, guests, marks: vec![7; 9] }
+        let (minimums, marks) = (vec![0, 0, 0, 9, 9], vec![7; 9]);
+        Loan { head: HEAD, operators, rides, presence, bands, guests, minimums, marks }
     }
 
     fn cover(&mut self) -> exported::Counts {
@@ -107,19 +102,27 @@ impl Loan {
                 self.presence.len(),
                 self.bands,
                 self.guests,
+                self.minimums.as_ptr(),
+                self.minimums.len(),
                 self.marks.as_mut_ptr(),
                 self.marks.len(),
             )
         }
     }
 
-    /// The crowd cover is refused with this, every count is 0, and every lent word is as it was.
+    /// The crowd cover is refused with this, every count is 0, and every lent word is as it was. Where the look-up isn't
+    /// refused, the own cover for its limits is, with the same number.
     fn check_refused(&mut self, refusal: Refusal) {
         let before = self.clone();
         assert_eq!(self.cover(), exported::Counts { code: refusal.number(), operators: 0, rides: 0 }, "{before:?}");
         assert_eq!(*self, before);
-        let Loan { head, operators, rides, presence, bands, guests, marks } = self;
-        assert_eq!(crowd_cover(*head, operators, rides, presence, *bands, *guests, marks), Err(refusal), "{before:?}");
+        let Loan { head, operators, rides, presence, bands, guests, minimums, marks } = self;
+        let answer = crowd_cover(*head, operators, rides, presence, *bands, *guests, minimums, marks);
+        assert_eq!(answer, Err(refusal), "{before:?}");
+        if let Ok(Limits { alpha, beta }) = crowd_limits(*bands, *guests) {
+            let answer = own_cover(*head, operators, rides, presence, minimums, alpha, beta, marks);
+            assert_eq!(answer, Err(refusal), "{before:?}");
+        }
         assert_eq!(*self, before);
     }
 }
@@ -243,10 +246,11 @@ fn the_first_number_of_a_look_up() {
 type Damage = fn(&mut Loan);
 
 /// The damages of 1 to 5 and 16 to 18, in the order in which they are checked.
-const DAMAGES: [(Refusal, Damage); 8] = [
+const DAMAGES: [(Refusal, Damage); 9] = [
     (Refusal::OperatorsOver, |loan| loan.head.operators = 201),
     (Refusal::RidesOver, |loan| loan.head.rides = 61),
     (Refusal::PartShort, |loan| loan.marks.truncate(6)),
+    (Refusal::PartShort, |loan| loan.minimums.truncate(2)),
     (Refusal::PairsOver, |loan| loan.head.pairs = 13),
     (Refusal::PairMisplaced, |loan| loan.rides[2] = 3),
     (Refusal::BandsMalformed, |loan| loan.guests = 20_001),
@@ -274,10 +278,11 @@ fn the_first_number_of_a_crowd_cover() {
 fn a_part_too_short() {
     let table = Bands::new(&split(8));
     for bands in [table, Bands::default(), with_band(&split(8), 0, band(0, 20_000, 1, 1))] {
-        let shorten: [Damage; 4] = [
+        let shorten: [Damage; 5] = [
             |loan| loan.operators.truncate(11),
             |loan| loan.rides.truncate(11),
             |loan| loan.presence.truncate(6),
+            |loan| loan.minimums.truncate(2),
             |loan| loan.marks.truncate(6),
         ];
         for damage in shorten {
@@ -290,6 +295,7 @@ fn a_part_too_short() {
     loan.operators.truncate(12);
     loan.rides.truncate(12);
     loan.presence.truncate(7);
+    loan.minimums.truncate(3);
     loan.marks.truncate(7);
     assert_eq!((loan.cover().code, loan.marks), (0, vec![1, 1, 1, 1, 0, 0, 0]));
 }
@@ -303,12 +309,12 @@ fn slices_of_any_length() {
     for count in 1..=8u16 {
         let table = split(count);
         assert_eq!(crowd_limits(Bands::new(&table), 0), Ok(Limits { alpha: 0, beta: 7 }));
-        assert!(board.cover_for(Bands::new(&table), 0).is_ok());
+        assert!(board.cover_for(Bands::new(&table), 0, &[0; 3]).is_ok());
         for length in [0, 9, 256 + count as usize, 65_535, 65_536, 65_536 + count as usize, 131_072 + count as usize] {
             let mut list = table.clone();
             list.resize(length, Band::default());
             check_refused(Bands::new(&list), 0, Refusal::BandsMalformed);
-            assert_eq!(board.cover_for(Bands::new(&list), 0), Err(Refusal::BandsMalformed), "{length} bands");
+            assert_eq!(board.cover_for(Bands::new(&list), 0, &[0; 3]), Err(Refusal::BandsMalformed), "{length} bands");
         }
     }
     static IN_A_STATIC: Bands = Bands::new(&[band(0, 20_000, 1, 3)]);
@@ -335,7 +341,8 @@ fn bands_past_the_count() {
     }
 }
 
-/// Covers of document 01's board by hand.
+/// Covers of document 01's board by hand, document 02's two with minimums among them. A minimum is smaller than the band's
+/// beta, larger and equal, and stands where that is 0.
 #[test]
 fn covers_of_the_sample() {
     let bands = Bands::new(&[
@@ -348,42 +355,68 @@ fn covers_of_the_sample() {
         band(6_000, 6_999, 4, 0),
         band(7_000, 20_000, 1, 4),
     ]);
-    for (guests, marks) in [
-        (999, [1, 1, 1, 1, 1, 1, 1]),
-        (1_000, [1, 1, 1, 0, 1, 1, 1]),
-        (2_000, [1, 1, 1, 1, 0, 1, 0]),
-        (3_999, [1, 1, 1, 1, 1, 1, 1]),
-        (4_000, [1, 1, 1, 0, 0, 1, 0]),
-        (5_000, [1, 1, 0, 0, 1, 1, 0]),
-        (6_000, [0, 0, 0, 0, 1, 1, 1]),
-        (20_000, [0, 0, 0, 0, 0, 0, 0]),
+    for (guests, minimums, marks) in [
+        (999, [0, 0, 0], [1, 1, 1, 1, 1, 1, 1]),
+        (999, [3, 3, 2], [1, 1, 1, 1, 0, 1, 1]),
+        (1_000, [0, 0, 0], [1, 1, 1, 0, 1, 1, 1]),
+        (1_000, [0, 3, 0], [1, 1, 1, 0, 1, 1, 1]),
+        (1_000, [0, 4, 0], [0, 0, 0, 0, 1, 0, 1]),
+        (2_000, [0, 0, 0], [1, 1, 1, 1, 0, 1, 0]),
+        (2_000, [0, 4, 1], [1, 1, 1, 1, 0, 0, 1]),
+        (3_999, [0, 0, 0], [1, 1, 1, 1, 1, 1, 1]),
+        (3_999, [0, 4, 0], [1, 1, 1, 1, 1, 0, 1]),
+        (3_999, [2, 3, 2], [1, 1, 1, 1, 1, 1, 1]),
+        (4_000, [0, 0, 0], [1, 1, 1, 0, 0, 1, 0]),
+        (4_000, [2, 0, 0], [1, 1, 1, 0, 1, 1, 0]),
+        (4_000, [3, 3, 3], [1, 1, 1, 0, 0, 1, 0]),
+        (4_999, [0, 4, 2], [0, 0, 1, 1, 0, 0, 1]),
+        (5_000, [0, 0, 0], [1, 1, 0, 0, 1, 1, 0]),
+        (5_000, [0, 0, 1], [1, 1, 1, 0, 1, 1, 1]),
+        (6_000, [0, 0, 0], [0, 0, 0, 0, 1, 1, 1]),
+        (20_000, [0, 0, 0], [0, 0, 0, 0, 0, 0, 0]),
+        (20_000, [0, 0, 2], [0, 0, 1, 1, 0, 0, 1]),
     ] {
         let mut loan = Loan::new(bands, guests);
+        loan.minimums[..3].copy_from_slice(&minimums);
         let expected = exported::Counts { code: 0, operators: marks[..4].iter().sum(), rides: marks[4..].iter().sum() };
-        assert_eq!(loan.cover(), expected, "{guests} guests");
-        assert_eq!((&loan.marks[..7], &loan.marks[7..]), (&marks[..], &[7, 7][..]), "{guests} guests");
+        assert_eq!(loan.cover(), expected, "{guests} guests, minimums {minimums:?}");
+        assert_eq!((&loan.marks[..7], &loan.marks[7..]), (&marks[..], &[7, 7][..]), "{guests}, {minimums:?}");
     }
 }
 
-/// For each band the crowd cover is what a query for its limits gives, and a peel from all ones. The marks that come in
-/// aren't read, and those past the nodes stay.
+/// Lists of minimums for a band with this beta: each minimum 0 or beta in the first three, then smaller, larger and equal
+/// ones and none beside one another.
+fn lists(rides: u16, beta: u16) -> Vec<Vec<u16>> {
+    let list = |minimum: &dyn Fn(u16) -> u16| (0..rides).map(minimum).collect();
+    let mut lists = vec![list(&|_| 0), list(&|_| beta), list(&|ride| ride % 2 * beta)];
+    let mixed = [0, 1, beta.saturating_sub(2), beta, beta + 1, beta + 9];
+    lists.extend((0..6).map(|first| list(&|ride| mixed[(first + ride) as usize % 6])));
+    lists
+}
+
+/// For each band the crowd cover is the own cover for its limits with the same minimums; where each is 0 or the band's beta,
+/// it is what a query for the limits gives. The marks that come in aren't read, and those past the nodes stay.
 fn check_covers(board: &Board, table: &[Band]) {
-    let Head { operators, rides, .. } = board.head();
-    let nodes = operators + rides;
-    let places = nodes as usize;
+    let (Head { operators, rides, .. }, bands) = (board.head(), Bands::new(table));
+    let places = mark_places(operators, rides);
     for Band { first, last, alpha, beta } in table.iter().copied() {
-        let (mut queried, mut peeled) = (vec![9; places], vec![1; places]);
-        let counts = board.query(alpha, beta, &mut queried).unwrap();
-        assert!(board.peel(&[0; 60], &mut peeled, alpha, beta, nodes).unwrap().settled);
-        assert_eq!(queried, peeled, "({alpha},{beta})");
-        for (guests, came) in
-            [first, last].into_iter().flat_map(|guests| [0, 1, 7, u16::MAX].map(|came| (guests, came)))
+        for (guests, minimums) in
+            [first, last].into_iter().flat_map(|guests| lists(rides, beta).into_iter().map(move |list| (guests, list)))
         {
-            let mut marks = vec![came; places + 2];
-            let answer = board.crowd_cover(Bands::new(table), guests, &mut marks);
-            assert_eq!(answer, Ok(counts), "({alpha},{beta}), marks of {came}");
-            assert_eq!((&marks[..places], &marks[places..]), (&queried[..], &[came; 2][..]), "({alpha},{beta})");
-            assert_eq!(board.cover_for(Bands::new(table), guests), board.cover(alpha, beta), "({alpha},{beta})");
+            let case = format!("({alpha},{beta}), minimums {minimums:?}");
+            let mut own = vec![9; places];
+            let counts = board.own_cover(&minimums, alpha, beta, &mut own).unwrap();
+            for came in [0, 1, 7, u16::MAX] {
+                let mut marks = vec![came; places + 2];
+                let answer = board.crowd_cover(bands, guests, &minimums, &mut marks);
+                assert_eq!(answer, Ok(counts), "{case}, marks of {came}");
+                assert_eq!((&marks[..places], &marks[places..]), (&own[..], &[came; 2][..]), "{case}");
+            }
+            let cover = board.cover_for(bands, guests, &minimums);
+            assert_eq!(cover, board.cover_with(&minimums, alpha, beta), "{case}");
+            if minimums.iter().all(|minimum| [0, beta].contains(minimum)) {
+                assert_eq!(cover, board.cover(alpha, beta), "{case}");
+            }
         }
     }
 }
@@ -396,77 +429,19 @@ fn tables_of_limits(alphas: impl Iterator<Item = u16>) -> impl Iterator<Item = V
 /// Every choice of operators off and rides out.
 #[test]
 fn covers_of_every_choice() {
-    for present in 0..1 << 7 {
-        let mut lent = Lent::new(LENGTHS);
-        let mut board = built(&mut lent);
-        for place in (0..7).filter(|place| present >> place & 1 == 0) {
-            let one = if place < 4 { Message::operator_off(place, 1) } else { Message::ride_out(place - 4, 1) };
-            board.message(one).unwrap();
-        }
-        tables_of_limits(0..6).for_each(|table| check_covers(&board, &table));
-    }
+    every_choice(|board| tables_of_limits(0..6).for_each(|table| check_covers(board, &table)));
 }
 
-/// Whoever's word is not 1 is in no cover, under limits of 0 neither.
-#[test]
-fn somebody_off() {
-    for gone in [0, 2, 7, 257, u16::MAX] {
-        for (limits, marks) in
-            [((0, 0), [1, 0, 1, 1, 1, 1, 0]), ((0, 2), [1, 0, 1, 1, 0, 1, 0]), ((2, 1), [1, 0, 0, 0, 1, 1, 0])]
-        {
-            let mut loan = Loan::new(Bands::new(&[band(0, 20_000, limits.0, limits.1)]), 0);
-            (loan.presence[1], loan.presence[4 + 2]) = (gone, gone);
-            let counts = loan.cover();
-            assert_eq!((counts.code, &loan.marks[..7]), (0, &marks[..]), "word {gone}, {limits:?}");
-            assert_eq!((counts.operators, counts.rides), (marks[..4].iter().sum(), marks[4..].iter().sum()));
-        }
-    }
-}
-
-/// Boards without rides, without operators, and without either.
-#[test]
-fn covers_of_empty_sides() {
-    for (operators, rides) in [(3, 0), (0, 3), (0, 0)] {
-        let mut memory = Memory::new();
-        let board = Board::build(memory.parts(), operators, rides, &[], 1).unwrap();
-        tables_of_limits(0..3).for_each(|table| check_covers(&board, &table));
-    }
-}
-
-/// The largest board, with every seventh operator off and a ride out.
+/// The largest board.
 #[test]
 fn covers_of_the_largest_board() {
-    let cleared = |operator: u32, ride: u32| {
-        (operator * 37 + ride * 61 + operator * ride * 13) % 211 < operator * (ride + 1) / 60 + 10
-    };
-    let pairs: Vec<(u16, u16)> = (0..200)
-        .flat_map(|operator| (0..60).map(move |ride| (operator, ride)))
-        .filter(|&(operator, ride)| cleared(operator as u32, ride as u32))
-        .collect();
     let mut memory = Box::new(Memory::new());
-    let mut board = Board::build(memory.parts(), 200, 60, &pairs, 1).unwrap();
-    let off: Vec<Message> = (0..200).step_by(7).map(|operator| Message::operator_off(operator, 2)).collect();
-    board.messages(&off, &mut [0; 200]).unwrap();
-    board.message(Message::ride_out(17, 2)).unwrap();
+    let board = largest(&mut memory, |operator, ride| {
+        (operator * 37 + ride * 61 + operator * ride * 13) % 211 < operator * (ride + 1) / 60 + 10
+    });
     let betas = [0, 1, 20, 30, 35, 40, 50, 70];
     for alpha in [0, 1, 10, 15, 20, 61] {
         let with_limits = |(band, beta): (Band, u16)| Band { alpha, beta, ..band };
         check_covers(&board, &split(8).into_iter().zip(betas).map(with_limits).collect::<Vec<_>>());
     }
-}
-
-/// A crowd cover goes by the pairs that are listed and not by the index: on a damaged one a query is wrong and it is right.
-#[test]
-fn a_damaged_index() {
-    let mut lent = Lent::new(LENGTHS);
-    built(&mut lent);
-    lent.index.fill(60_000);
-    lent.operators[7..].fill(3);
-    lent.rides[7..].fill(60_000);
-    let board = Board::attach(lent.parts(), HEAD).unwrap();
-    let bands = Bands::new(&[band(0, 20_000, 2, 2)]);
-    assert_eq!(board.cover(2, 2).unwrap().counts(), Counts { operators: 4, rides: 3 });
-    let cover = board.cover_for(bands, 300).unwrap();
-    assert_eq!(cover.counts(), Counts { operators: 2, rides: 2 });
-    assert!(cover.operators().eq([0, 1]) && cover.rides().eq([0, 1]));
 }

@@ -1,22 +1,24 @@
-//! Minimums of rides: whom a peel drops and an own cover marks where a ride has a minimum of its own, which places of the
-//! list are read, and which lists are too short.
+//! Minimums of rides: whom a peel drops, and an own cover and a crowd cover mark, where a ride has a minimum of its own,
+//! which places of the list are read, and which lists are too short.
 
+mod boards;
 mod lent;
 
 use board::*;
+use boards::{built, every_choice, largest, HEAD, LENGTHS, PAIRS};
 use lent::Lent;
 
-const PAIRS: [(u16, u16); 7] = [(0, 0), (0, 1), (1, 0), (1, 1), (2, 1), (2, 2), (3, 2)];
-const LENGTHS: [usize; 8] = [12, 12, 12, 12, 21, 7, 7, 7];
-const HEAD: Head = Head { operators: 4, rides: 3, pairs: 7 };
+/// A guest count in the second band.
+const GUESTS: u16 = 8_000;
 
-/// Document 01's board, built at stamp 5.
-fn built(lent: &mut Lent) -> Board<'_> {
-    Board::build(lent.parts(), 4, 3, &PAIRS, 5).unwrap()
+/// Two bands, the second with these limits.
+fn bands(alpha: u16, beta: u16) -> Bands {
+    let second = Band { first: GUESTS, last: GUESTS_MOST, alpha, beta };
+    Bands::new(&[Band { first: 0, last: GUESTS - 1, alpha: 9, beta: 9 }, second])
 }
 
-/// An own cover gives these marks and counts, whatever marks came in, and leaves those past the nodes. A peel from all ones
-/// settles at the same.
+/// An own cover gives these marks and counts, whatever marks came in, and leaves those past the nodes. So does a crowd cover
+/// for a band with the same limits, and a peel from all ones settles at the same.
 fn check(board: &Board, minimums: &[u16], (alpha, beta): (u16, u16), expected: &[u16]) {
     let Head { operators, rides, .. } = board.head();
     let (nodes, case) = (expected.len(), format!("minimums {minimums:?}, ({alpha},{beta})"));
@@ -28,8 +30,12 @@ fn check(board: &Board, minimums: &[u16], (alpha, beta): (u16, u16), expected: &
         let mut marks = vec![came; nodes + 2];
         assert_eq!(board.own_cover(minimums, alpha, beta, &mut marks), Ok(counts), "{case}");
         assert_eq!((&marks[..nodes], &marks[nodes..]), (expected, &[came; 2][..]), "{case}");
+        let mut crowded = vec![came; nodes + 2];
+        assert_eq!(board.crowd_cover(bands(alpha, beta), GUESTS, minimums, &mut crowded), Ok(counts), "{case}");
+        assert_eq!(crowded, marks, "{case}");
     }
     let cover = board.cover_with(minimums, alpha, beta).unwrap();
+    assert_eq!(board.cover_for(bands(alpha, beta), GUESTS, minimums), Ok(cover), "{case}");
     assert_eq!(cover.counts(), counts, "{case}");
     assert!(
         (0..operators).all(|operator| cover.has_operator(operator) == (expected[operator as usize] == 1)),
@@ -115,9 +121,9 @@ fn degrees() -> Vec<[u16; 7]> {
     (0..1 << 7).map(|set| core::array::from_fn(|node| degree(set, node) as u16)).collect()
 }
 
-/// Every list of minimums from 0 to 4, under smaller and larger betas, inside every set: an own cover where these are present
-/// and a peel from these marks leave the largest set under the limits, by the definition the union of all in which nobody
-/// falls short.
+/// Every list of minimums from 0 to 4, under smaller and larger betas, inside every set: an own cover and a crowd cover where
+/// these are present and a peel from these marks leave the largest set under the limits, by the definition the union of all in
+/// which nobody falls short.
 #[test]
 fn every_list_by_the_definition() {
     let mut lent = Lent::new(LENGTHS);
@@ -142,6 +148,9 @@ fn every_list_by_the_definition() {
             let counts = own_cover(HEAD, operators, rides, &presence, &minimums, alpha, beta, &mut marks).unwrap();
             assert_eq!(marks, marks_of(largest), "{case}");
             assert_eq!((counts.operators, counts.rides), (marks[..4].iter().sum(), marks[4..].iter().sum()), "{case}");
+            let (bands, mut crowded) = (bands(alpha, beta), [9; 7]);
+            let answer = crowd_cover(HEAD, operators, rides, &presence, bands, GUESTS, &minimums, &mut crowded);
+            assert_eq!((answer, crowded), (Ok(counts), marks), "{case}");
             let (mut left, steps) = (presence, (inside.count_ones() - largest.count_ones()) as u16);
             let answer = board.peel(&minimums, &mut left, alpha, beta, 7);
             assert_eq!((answer, left), (Ok(Peeled { settled: true, steps }), marks), "{case}");
@@ -168,15 +177,7 @@ fn check_all_the_same(board: &Board, alphas: &[u16], betas: &[u16]) {
 /// Every choice of operators off and rides out.
 #[test]
 fn all_the_same() {
-    for present in 0..1 << 7 {
-        let mut lent = Lent::new(LENGTHS);
-        let mut board = built(&mut lent);
-        for place in (0..7).filter(|&place| !has(present, place as usize)) {
-            let one = if place < 4 { Message::operator_off(place, 1) } else { Message::ride_out(place - 4, 1) };
-            board.message(one).unwrap();
-        }
-        check_all_the_same(&board, &[0, 1, 2, 3, 4], &[0, 1, 2, 3, 4]);
-    }
+    every_choice(|board| check_all_the_same(board, &[0, 1, 2, 3, 4], &[0, 1, 2, 3, 4]));
 }
 
 /// Boards without rides, to which an empty list is lent, without operators, and without either.
@@ -221,18 +222,11 @@ fn each_minimum_at_its_ride() {
     }
 }
 
-/// The largest board, with every seventh operator off and a ride out: minimums all the same, and minimums of many sizes,
-/// where whoever falls short goes until nobody does.
+/// The largest board: minimums all the same, and minimums of many sizes, where whoever falls short goes until nobody does.
 #[test]
 fn the_largest_board() {
-    let cleared = |u: u16, v: u16| (u as u32 * 37 + v as u32 * 61 + u as u32 * v as u32 * 13) % 211 < u as u32 / 4 + 60;
-    let pairs: Vec<(u16, u16)> =
-        (0..200).flat_map(|u| (0..60).map(move |v| (u, v))).filter(|&(u, v)| cleared(u, v)).collect();
     let mut memory = Box::new(Memory::new());
-    let mut board = Board::build(memory.parts(), 200, 60, &pairs, 1).unwrap();
-    let off: Vec<Message> = (0..200).step_by(7).map(|operator| Message::operator_off(operator, 2)).collect();
-    board.messages(&off, &mut [0; 200]).unwrap();
-    board.message(Message::ride_out(17, 2)).unwrap();
+    let board = largest(&mut memory, |u, v| (u * 37 + v * 61 + u * v * 13) % 211 < u / 4 + 60);
     check_all_the_same(&board, &[0, 20, 61], &[0, 20, 70]);
 
     let mut sizes = Vec::new();
@@ -242,7 +236,7 @@ fn the_largest_board() {
         let mut expected: Vec<u16> = board.words().presence.to_vec();
         loop {
             let mut degrees = [0; 260];
-            for (u, v) in pairs.iter().map(|&(u, v)| (u as usize, 200 + v as usize)) {
+            for (u, v) in board.pairs().map(|(u, v)| (u as usize, 200 + v as usize)) {
                 let both = expected[u] * expected[v];
                 (degrees[u], degrees[v]) = (degrees[u] + both, degrees[v] + both);
             }
@@ -302,6 +296,9 @@ fn steps_of_a_peel() {
 fn somebody_off() {
     for gone in [0, 2, 7, 257, u16::MAX] {
         for (minimums, limits, expected) in [
+            ([0, 0, 0], (0, 0), [1, 0, 1, 1, 1, 1, 0]),
+            ([0, 0, 0], (0, 2), [1, 0, 1, 1, 0, 1, 0]),
+            ([0, 0, 0], (2, 1), [1, 0, 0, 0, 1, 1, 0]),
             ([0, 2, 1], (0, 0), [1, 0, 1, 1, 1, 1, 0]),
             ([0, 3, 0], (0, 0), [1, 0, 1, 1, 1, 0, 0]),
             ([1, 2, 1], (1, 9), [1, 0, 1, 0, 1, 1, 0]),
@@ -474,12 +471,16 @@ fn as_long_as_needed() {
     for length in 0..60 {
         assert_eq!(board.own_cover(&list[..length], 1, 1, &mut marks), Err(Refusal::PartShort), "{length} places");
         assert_eq!(board.cover_with(&list[..length], 1, 1), Err(Refusal::PartShort), "{length} places");
+        let crowded = board.crowd_cover(bands(1, 1), GUESTS, &list[..length], &mut marks);
+        assert_eq!(crowded, Err(Refusal::PartShort), "{length} places");
+        assert_eq!(board.cover_for(bands(1, 1), GUESTS, &list[..length]), Err(Refusal::PartShort), "{length} places");
         assert_eq!(board.peel(&list[..length], &mut marks, 1, 1, 9), Err(Refusal::PartShort), "{length} places");
     }
     assert_eq!(marks, before);
 }
 
-/// An own cover goes by the pairs that are listed and not by the index: on a damaged one a query is wrong and it is right.
+/// An own cover and a crowd cover go by the pairs that are listed and not by the index: on a damaged one a query is wrong and
+/// they are right.
 #[test]
 fn a_damaged_index() {
     let mut lent = Lent::new(LENGTHS);
