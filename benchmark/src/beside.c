@@ -3,8 +3,8 @@
  * each round both make the same calls, and the one that begins changes from round to round. Prints for each call and number
  * of pairs the microseconds of both, medians of the rounds. Ends where they leave different words.
  *
- * The other archive has the same interface. With OTHER_WITHOUT_MINIMUMS it has the one before minimums: its peel takes none,
- * and its crowd cover for one band stands beside the own cover. Minimums are equal to beta, so that both find the same set.
+ * The other archive has the same interface. With OTHER_WITHOUT_CROWD_MINIMUMS it has that of header 4.0.0, whose crowd
+ * cover takes no minimums. Minimums are equal to beta, so that both find the same set.
  */
 #define _POSIX_C_SOURCE 199309L
 #include "board.h"
@@ -16,8 +16,11 @@
 extern uint16_t other_board_build(BoardHead, uint16_t *, size_t, uint16_t *, size_t, uint32_t, uint32_t *, size_t,
                                   uint16_t *, size_t, uint16_t *, size_t, uint32_t *, size_t, uint16_t *, size_t,
                                   uint16_t *, size_t);
-extern BoardCounts other_board_crowd_cover(BoardHead, const uint16_t *, size_t, const uint16_t *, size_t,
-                                           const uint16_t *, size_t, BoardBands, uint16_t, uint16_t *, size_t);
+extern BoardPeeled other_board_peel(BoardHead, const uint16_t *, size_t, const uint16_t *, size_t, const uint16_t *,
+                                    size_t, const uint16_t *, size_t, uint16_t *, size_t, uint16_t, uint16_t, uint16_t);
+extern BoardCounts other_board_own_cover(BoardHead, const uint16_t *, size_t, const uint16_t *, size_t,
+                                         const uint16_t *, size_t, const uint16_t *, size_t, uint16_t, uint16_t,
+                                         uint16_t *, size_t);
 extern BoardAnswer other_board_message(BoardHead *, uint16_t *, size_t, uint16_t *, size_t, uint32_t *, size_t,
                                        uint16_t *, size_t, uint16_t *, size_t, uint32_t *, size_t, uint16_t *, size_t,
                                        uint16_t *, size_t, BoardMessage);
@@ -74,40 +77,37 @@ static BoardBands one_band(void) {
     return (BoardBands){.count = 1, .bands = {{.first = 0, .last = BOARD_GUESTS_MOST, .alpha = alpha, .beta = beta}}};
 }
 
-#ifdef OTHER_WITHOUT_MINIMUMS
+#ifdef OTHER_WITHOUT_CROWD_MINIMUMS
 
-extern BoardPeeled other_board_peel(BoardHead, const uint16_t *, size_t, const uint16_t *, size_t, const uint16_t *,
-                                    size_t, uint16_t *, size_t, uint16_t, uint16_t, uint16_t);
+extern BoardCounts other_board_crowd_cover(BoardHead, const uint16_t *, size_t, const uint16_t *, size_t,
+                                           const uint16_t *, size_t, BoardBands, uint16_t, uint16_t *, size_t);
 
-static BoardPeeled other_peel(Lent *b) {
-    return other_board_peel(b->head, b->operators, PLACES, b->rides, PLACES, b->presence, NODES, b->marks, NODES, alpha,
-                            beta, 65535);
-}
-
-static BoardCounts other_own_cover(Lent *b) {
+static BoardCounts other_crowd_cover(Lent *b) {
     return other_board_crowd_cover(b->head, b->operators, PLACES, b->rides, PLACES, b->presence, NODES, one_band(), 0,
                                    b->marks, NODES);
 }
 
 #else
 
-extern BoardPeeled other_board_peel(BoardHead, const uint16_t *, size_t, const uint16_t *, size_t, const uint16_t *,
-                                    size_t, const uint16_t *, size_t, uint16_t *, size_t, uint16_t, uint16_t, uint16_t);
-extern BoardCounts other_board_own_cover(BoardHead, const uint16_t *, size_t, const uint16_t *, size_t,
-                                         const uint16_t *, size_t, const uint16_t *, size_t, uint16_t, uint16_t,
-                                         uint16_t *, size_t);
+extern BoardCounts other_board_crowd_cover(BoardHead, const uint16_t *, size_t, const uint16_t *, size_t,
+                                           const uint16_t *, size_t, BoardBands, uint16_t, const uint16_t *, size_t,
+                                           uint16_t *, size_t);
 
-static BoardPeeled other_peel(Lent *b) {
-    return other_board_peel(b->head, b->operators, PLACES, b->rides, PLACES, b->presence, NODES, b->minimums, RIDES,
-                            b->marks, NODES, alpha, beta, 65535);
-}
-
-static BoardCounts other_own_cover(Lent *b) {
-    return other_board_own_cover(b->head, b->operators, PLACES, b->rides, PLACES, b->presence, NODES, b->minimums, RIDES,
-                                 alpha, beta, b->marks, NODES);
+static BoardCounts other_crowd_cover(Lent *b) {
+    return other_board_crowd_cover(b->head, b->operators, PLACES, b->rides, PLACES, b->presence, NODES, one_band(), 0,
+                                   b->minimums, RIDES, b->marks, NODES);
 }
 
 #endif
+
+static void crowd_cover(int other, int place) {
+    Lent *b = &lent[other];
+    (void)place;
+    BoardCounts counts = other ? other_crowd_cover(b)
+                               : board_crowd_cover(b->head, b->operators, PLACES, b->rides, PLACES, b->presence, NODES,
+                                                   one_band(), 0, b->minimums, RIDES, b->marks, NODES);
+    expect(counts.code == BOARD_DONE, "a crowd cover is refused");
+}
 
 static void peel(int other, int place) {
     Lent *b = &lent[other];
@@ -115,27 +115,19 @@ static void peel(int other, int place) {
     for (int x = 0; x < NODES; x++) {
         b->marks[x] = 1;
     }
-    BoardPeeled peeled = other ? other_peel(b)
-                               : board_peel(b->head, b->operators, PLACES, b->rides, PLACES, b->presence, NODES,
-                                            b->minimums, RIDES, b->marks, NODES, alpha, beta, 65535);
+    BoardPeeled peeled = (other ? other_board_peel : board_peel)(
+        b->head, b->operators, PLACES, b->rides, PLACES, b->presence, NODES, b->minimums, RIDES, b->marks, NODES, alpha,
+        beta, 65535);
     expect(peeled.code == BOARD_DONE && peeled.settled == BOARD_SETTLED, "a peel doesn't settle");
 }
 
 static void own_cover(int other, int place) {
     Lent *b = &lent[other];
     (void)place;
-    BoardCounts counts = other ? other_own_cover(b)
-                               : board_own_cover(b->head, b->operators, PLACES, b->rides, PLACES, b->presence, NODES,
-                                                 b->minimums, RIDES, alpha, beta, b->marks, NODES);
+    BoardCounts counts = (other ? other_board_own_cover : board_own_cover)(
+        b->head, b->operators, PLACES, b->rides, PLACES, b->presence, NODES, b->minimums, RIDES, alpha, beta, b->marks,
+        NODES);
     expect(counts.code == BOARD_DONE, "an own cover is refused");
-}
-
-static void crowd_cover(int other, int place) {
-    Lent *b = &lent[other];
-    (void)place;
-    BoardCounts counts = (other ? other_board_crowd_cover : board_crowd_cover)(
-        b->head, b->operators, PLACES, b->rides, PLACES, b->presence, NODES, one_band(), 0, b->marks, NODES);
-    expect(counts.code == BOARD_DONE, "a crowd cover is refused");
 }
 
 static int compare(const void *a, const void *b) {
@@ -237,6 +229,7 @@ int main(void) {
         measure("own cover", sizes[size], own_cover);
         set_minimums(beta);
         measure("peel, minimums", sizes[size], peel);
+        measure("crowd cover, minimums", sizes[size], crowd_cover);
         measure("own cover, minimums", sizes[size], own_cover);
         measure("message", sizes[size], message);
     }

@@ -25,7 +25,7 @@ pub fn lines(case: &Case, board: &Board, (alpha, beta): (u16, u16), calls: [&'st
     assert!(words.presence.iter().all(|word| *word == PRESENT));
     let (operators, rides, here) = (words.operators, words.rides, vec![1; case.nodes()]);
     let (limits, bands) = (case.limit_list((alpha, beta)), crowds::bands((alpha, beta)));
-    let [_, minimums, _] = minimums::lists(case, beta);
+    let [_, minimums, none] = minimums::lists(case, beta);
     let (mut by_operator, mut by_ride) = (vec![0; TABLE], vec![0; TABLE]);
     // The board's pair arrays are accepted, and there are as many bytes, limits and marks as nodes.
     let degrees = unsafe { kernel::tables(head, operators, rides, &here, &mut by_operator, &mut by_ride) };
@@ -43,7 +43,7 @@ pub fn lines(case: &Case, board: &Board, (alpha, beta): (u16, u16), calls: [&'st
             },
             &mut || {
                 let (bands, marks) = (*black_box(&bands), black_box(&mut for_guests));
-                black_box(board.crowd_cover(bands, crowds::GUESTS, marks).unwrap());
+                black_box(board.crowd_cover(bands, crowds::GUESTS, black_box(&none), marks).unwrap());
             },
             &mut || {
                 let (minimums, marks) = (black_box(&minimums), black_box(&mut with_minimums));

@@ -25,6 +25,7 @@ fn times(case: &Case, board: &Board, (alpha, beta): (u16, u16)) -> [Vec<f64>; 3]
     let (head, words) = (board.head(), board.words());
     assert!(words.presence.iter().all(|word| *word == PRESENT));
     let (bands, limits, here) = (bands((alpha, beta)), case.limit_list((alpha, beta)), vec![1; case.nodes()]);
+    let none = vec![0; case.rides as usize];
     let mut gapped = bands;
     gapped.bands[BANDS_MOST - 1].last -= 1;
     let [mut for_guests, mut under, mut asked, mut kept] = [(); 4].map(|_| vec![2; case.nodes()]);
@@ -34,7 +35,7 @@ fn times(case: &Case, board: &Board, (alpha, beta): (u16, u16)) -> [Vec<f64>; 3]
         &mut [
             &mut || {
                 let (bands, marks) = (*black_box(&bands), black_box(&mut for_guests));
-                counts = Some(board.crowd_cover(bands, GUESTS, marks).unwrap());
+                counts = Some(board.crowd_cover(bands, GUESTS, &none, marks).unwrap());
             },
             // The board's pair arrays are accepted, and there are as many bytes, limits and marks as nodes.
             &mut || unsafe {
@@ -43,7 +44,7 @@ fn times(case: &Case, board: &Board, (alpha, beta): (u16, u16)) -> [Vec<f64>; 3]
             },
             &mut || {
                 let (bands, marks) = (*black_box(&gapped), black_box(&mut kept));
-                refused = Some(board.crowd_cover(bands, GUESTS, marks));
+                refused = Some(board.crowd_cover(bands, GUESTS, &none, marks));
             },
         ],
     );

@@ -92,7 +92,7 @@ fn deepest() -> [usize; 9] {
         let bands = limits.map(crowds::bands);
         let look_up = |bands| stack::deepest(|| assert!(board::crowd_limits(bands, GUESTS).is_ok()));
         let looked_up = bands.map(look_up).into_iter().max().unwrap();
-        let cover = |bands| stack::deepest(|| assert!(board.crowd_cover(bands, GUESTS, &mut marks).is_ok()));
+        let cover = |bands| stack::deepest(|| assert!(board.crowd_cover(bands, GUESTS, &minimums, &mut marks).is_ok()));
         let covered = bands.map(cover).into_iter().max().unwrap();
         let (sent, list) = case.messages.split_at(12);
         let (sent, list) = ([sent, &leaving_and_coming(1)].concat(), [list, &leaving_and_coming(3)].concat());
@@ -201,9 +201,9 @@ fn lent() -> [(String, &'static str); 9] {
         board::own_cover(head, operators, rides, presence, &minimums[..m], 1, 1, &mut marks[..k]).map(|_| ())
     });
     let bands = crowds::bands((1, 1));
-    let covered = fewest(|[o, r, p, k]| {
+    let covered = fewest(|[o, r, p, m, k]| {
         let (operators, rides, presence) = (&long.operators[..o], &long.rides[..r], &long.presence[..p]);
-        board::crowd_cover(head, operators, rides, presence, bands, GUESTS, &mut marks[..k]).map(|_| ())
+        board::crowd_cover(head, operators, rides, presence, bands, GUESTS, &minimums[..m], &mut marks[..k]).map(|_| ())
     });
     let taken = fewest(|lengths| message(&mut head, long.first(lengths), one));
     let listed = fewest(|[o, r, s, v, i, ps, pv, p, a]| {
@@ -226,7 +226,7 @@ fn lent() -> [(String, &'static str); 9] {
         (format!("{}", words(&peeled)), "pair arrays, presence words, minimums, marks"),
         (format!("{}", words(&owned)), "pair arrays, presence words, minimums, marks"),
         ("0".to_string(), "nothing"),
-        (format!("{}", words(&covered)), "pair arrays, presence words, marks"),
+        (format!("{}", words(&covered)), "pair arrays, presence words, minimums, marks"),
         (
             format!("{}", head_bytes + board_bytes(&taken)),
             "head, pair arrays, stamps, revisions, index, presence parts",

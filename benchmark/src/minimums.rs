@@ -1,6 +1,6 @@
-//! A peel and an own cover with minimums beside the same without, and an own cover beside a crowd cover.
+//! A peel, an own cover and a crowd cover with minimums beside the same without, and an own cover beside a crowd cover.
 
-use crate::{goal, measure, print_beside, Case, Numbers, ROUNDS};
+use crate::{crowds, goal, measure, print_beside, Case, Numbers, ROUNDS};
 use board::{Band, Bands, Board, GUESTS_MOST};
 use std::hint::black_box;
 
@@ -21,39 +21,48 @@ fn limits(case: &Case, board: &Board, (alpha, beta): (u16, u16)) -> (u16, u16) {
     (alpha, beta.max(1))
 }
 
-/// The times of a peel from all ones with each of the lists. It leaves the marks of a query.
-fn peels(case: &Case, board: &Board, drop: (u16, u16)) -> [Vec<f64>; 3] {
-    let (alpha, beta) = limits(case, board, drop);
+/// The times of a call with each of the lists. It leaves the marks of a query.
+fn with_lists(
+    case: &Case,
+    board: &Board,
+    (alpha, beta): (u16, u16),
+    call: impl Fn(&[u16], &mut [u16]),
+) -> [Vec<f64>; 3] {
     let [each, half, none] = lists(case, beta);
     let [mut first, mut second, mut third, mut asked] = [(); 4].map(|_| vec![2; case.nodes()]);
-    let peel = |minimums: &[u16], marks: &mut [u16]| {
-        marks.fill(1);
-        assert!(board.peel(black_box(minimums), black_box(marks), alpha, beta, u16::MAX).unwrap().settled);
-    };
+    let call = |minimums: &[u16], marks: &mut [u16]| call(black_box(minimums), black_box(marks));
     let times = measure(
         100,
-        &mut [&mut || peel(&each, &mut first), &mut || peel(&half, &mut second), &mut || peel(&none, &mut third)],
+        &mut [&mut || call(&each, &mut first), &mut || call(&half, &mut second), &mut || call(&none, &mut third)],
     );
     board.query(alpha, beta, &mut asked).unwrap();
     assert!(first == asked && second == asked && third == asked);
     times
 }
 
-/// The times of an own cover with each of the lists. It leaves the marks of a query.
-fn covers(case: &Case, board: &Board, drop: (u16, u16)) -> [Vec<f64>; 3] {
+/// Peels from all ones.
+fn peels(case: &Case, board: &Board, drop: (u16, u16)) -> [Vec<f64>; 3] {
     let (alpha, beta) = limits(case, board, drop);
-    let [each, half, none] = lists(case, beta);
-    let [mut first, mut second, mut third, mut asked] = [(); 4].map(|_| vec![2; case.nodes()]);
-    let cover = |minimums: &[u16], marks: &mut [u16]| {
-        black_box(board.own_cover(black_box(minimums), alpha, beta, black_box(marks)).unwrap());
-    };
-    let times = measure(
-        100,
-        &mut [&mut || cover(&each, &mut first), &mut || cover(&half, &mut second), &mut || cover(&none, &mut third)],
-    );
-    board.query(alpha, beta, &mut asked).unwrap();
-    assert!(first == asked && second == asked && third == asked);
-    times
+    with_lists(case, board, (alpha, beta), |minimums, marks| {
+        marks.fill(1);
+        assert!(board.peel(minimums, marks, alpha, beta, u16::MAX).unwrap().settled);
+    })
+}
+
+fn own_covers(case: &Case, board: &Board, drop: (u16, u16)) -> [Vec<f64>; 3] {
+    let (alpha, beta) = limits(case, board, drop);
+    with_lists(case, board, (alpha, beta), |minimums, marks| {
+        black_box(board.own_cover(minimums, alpha, beta, marks).unwrap());
+    })
+}
+
+/// Crowd covers, whose band has the limits.
+fn crowd_covers(case: &Case, board: &Board, drop: (u16, u16)) -> [Vec<f64>; 3] {
+    let limits = limits(case, board, drop);
+    let bands = crowds::bands(limits);
+    with_lists(case, board, limits, |minimums, marks| {
+        black_box(board.crowd_cover(*black_box(&bands), crowds::GUESTS, minimums, marks).unwrap());
+    })
 }
 
 /// The times of an own cover without minimums, and of a crowd cover for a table of one band with the same limits.
@@ -69,8 +78,8 @@ fn beside_crowd(case: &Case, board: &Board, (alpha, beta): (u16, u16)) -> [Vec<f
                 black_box(board.own_cover(minimums, black_box(alpha), black_box(beta), marks).unwrap());
             },
             &mut || {
-                let (bands, marks) = (*black_box(&bands), black_box(&mut crowd));
-                black_box(board.crowd_cover(bands, black_box(0), marks).unwrap());
+                let (bands, minimums, marks) = (*black_box(&bands), black_box(&none), black_box(&mut crowd));
+                black_box(board.crowd_cover(bands, black_box(0), minimums, marks).unwrap());
             },
         ],
     );
@@ -85,8 +94,11 @@ pub fn print(cases: &[Case]) {
     let ratios = print_beside(cases, "a peel with minimums beside one without", names, 2, peels);
     println!("\n- peel with minimums at most {most} × its time without: {}\n", goal(&ratios, most));
     println!("An own cover in the same way:\n");
-    let ratios = print_beside(cases, "an own cover with minimums beside one without", names, 2, covers);
+    let ratios = print_beside(cases, "an own cover with minimums beside one without", names, 2, own_covers);
     println!("\n- own cover with minimums at most {most} × its time without: {}\n", goal(&ratios, most));
+    println!("A crowd cover in the same way:\n");
+    let ratios = print_beside(cases, "a crowd cover with minimums beside one without", names, 2, crowd_covers);
+    println!("\n- crowd cover with minimums at most {most} × its time without: {}\n", goal(&ratios, most));
     println!("An own cover without minimums beside a crowd cover for a table of one band:\n");
     let names = ["own cover", "crowd cover"];
     let ratios = print_beside(cases, "an own cover beside a crowd cover", names, 2, beside_crowd);
