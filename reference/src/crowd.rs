@@ -1,7 +1,7 @@
-//! Document 02, 2.6, limits by crowd: a table of bands, the look-up, and the cover for a guest count. Every guest count is
-//! looked at.
+//! Document 02, 2.6 and 2.8, limits by crowd: a table of bands, the look-up, and the cover for a guest count. Every guest
+//! count is looked at.
 
-use crate::{core, first_of, lent_number, listed, show, Counting, Counts, Head};
+use crate::{first_of, lent_number, show_cover, Counts, Head};
 
 /// The largest number of guests.
 pub const GUESTS_MOST: u16 = 20_000;
@@ -80,7 +80,8 @@ pub fn crowd_limits(bands: &Bands, guests: u16) -> CrowdLimits {
     CrowdLimits { code, alpha: band.alpha, beta: band.beta }
 }
 
-/// The cover for a guest count: that for the limits of its band, by Definition 2.1. The marks that come in aren't read.
+/// The cover for a guest count: that for the limits of its band, where a ride's own minimum goes first.
+#[allow(clippy::too_many_arguments)]
 pub fn crowd_cover(
     head: Head,
     operators: &[u16],
@@ -88,14 +89,14 @@ pub fn crowd_cover(
     presence: &[u16],
     bands: &Bands,
     guests: u16,
+    minimums: &[u16],
     marks: &mut [u16],
 ) -> Counts {
-    let code = lent_number(head, operators, rides, presence, None, marks);
+    let code = lent_number(head, operators, rides, presence, minimums, marks);
     let limits = crowd_limits(bands, guests);
     let code = if code != 0 { code } else { limits.code };
     if code != 0 {
         return Counts { code, operators: 0, rides: 0 };
     }
-    let counting = Counting::new(head, &listed(head, operators, rides), presence);
-    show(head, core(&counting, limits.alpha as usize, limits.beta as usize), marks)
+    show_cover(head, operators, rides, presence, minimums, (limits.alpha, limits.beta), marks)
 }

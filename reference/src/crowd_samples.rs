@@ -1,6 +1,7 @@
 //! Document 02's limits by crowd, worked out by hand on document 01's board of `samples::PAIRS`.
 
 use crate::crowd::{Band, Bands, BANDS_MOST};
+use crate::minimums::Three;
 use crate::presence::{Words, EVERYBODY, NEITHER, NOBODY, NO_OPERATOR_2, NO_RIDE_1, ODD};
 use crate::samples::{head, Pair, BUILT, PAIRS};
 use crate::Head;
@@ -146,6 +147,56 @@ pub const CROWD_COVERS: &[CrowdCover] = &[
     (NO_RIDE_1, 14_999, NOBODY),
     ([0, 1, 1, 1, 1, 1, 1], 9_000, NOBODY),
     ([1, 1, 1, 257, 1, 1, 7], 9_000, COVER_2_2),
+];
+
+/// A table, the rides' own minimums, and what is asked.
+pub type WithMinimums = (Bands, Three, &'static [Asked]);
+
+/// The limits of document 02's samples of own minimums.
+const TWO: Bands = table(&[(10_000, 20_000, 1, 2), (0, 9_999, 1, 3)]);
+
+/// `minimums::COVERS` are crowd covers too, for a band of their limits. Here the same minimums are tried in several bands.
+pub const WITH_MINIMUMS: &[WithMinimums] = &[
+    // Document 02's: no ride, ride 0 and ride 1 have one.
+    (TWO, [0; 3], &[(9_999, (1, 3), COVER_1_3), (10_000, (1, 2), EVERYBODY)]),
+    (TWO, [2, 0, 0], &[(9_999, (1, 3), [1, 1, 1, 0, 1, 1, 0]), (10_000, (1, 2), EVERYBODY)]),
+    (TWO, [0, 4, 0], &[(9_999, (1, 3), NOBODY), (10_000, (1, 2), [1, 1, 1, 1, 1, 0, 1])]),
+    // Ride 0 stays by its 1 in every band. For the others the band's beta holds.
+    (
+        FIVE,
+        [1, 0, 0],
+        &[
+            (999, (0, 0), EVERYBODY),
+            (1_000, (0, 2), EVERYBODY),
+            (5_000, (1, 3), [1, 1, 1, 0, 1, 1, 0]),
+            (9_000, (2, 2), COVER_2_2),
+            (20_000, (1, 4), [1, 1, 0, 0, 1, 0, 0]),
+        ],
+    ),
+    // Ride 1 goes in every band. For the operators the band's alpha holds.
+    (
+        FIVE,
+        [0, 4, 1],
+        &[
+            (999, (0, 0), [1, 1, 1, 1, 1, 0, 1]),
+            (1_000, (0, 2), [1, 1, 1, 1, 1, 0, 1]),
+            (5_000, (1, 3), [0, 0, 1, 1, 0, 0, 1]),
+            (9_000, (2, 2), NOBODY),
+            (20_000, (1, 4), [0, 0, 1, 1, 0, 0, 1]),
+        ],
+    ),
+    // Every ride has one: no band's beta is used.
+    (
+        FIVE,
+        [2; 3],
+        &[
+            (999, (0, 0), EVERYBODY),
+            (1_000, (0, 2), EVERYBODY),
+            (5_000, (1, 3), EVERYBODY),
+            (9_000, (2, 2), COVER_2_2),
+            (20_000, (1, 4), EVERYBODY),
+        ],
+    ),
 ];
 
 // Refusals

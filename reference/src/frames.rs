@@ -160,6 +160,7 @@ pub enum Call {
         operators: Part<u16>,
         rides: Part<u16>,
         presence: Part<u16>,
+        minimums: Part<u16>,
         marks: Part<u16>,
     },
     OwnCover {
@@ -267,7 +268,7 @@ impl Call {
                 frame.extend([CROWD_LIMITS, *guests]);
                 put_bands(&mut frame, bands);
             }
-            Call::CrowdCover { head, guests, bands, operators, rides, presence, marks } => {
+            Call::CrowdCover { head, guests, bands, operators, rides, presence, minimums, marks } => {
                 frame.push(CROWD_COVER);
                 put_head(&mut frame, *head);
                 frame.push(*guests);
@@ -275,6 +276,7 @@ impl Call {
                 put_part(&mut frame, operators);
                 put_part(&mut frame, rides);
                 put_part(&mut frame, presence);
+                put_part(&mut frame, minimums);
                 put_part(&mut frame, marks);
             }
             Call::OwnCover { head, alpha, beta, operators, rides, presence, minimums, marks } => {
@@ -345,6 +347,7 @@ pub trait Board {
         presence: &[u16],
         bands: Bands,
         guests: u16,
+        minimums: &[u16],
         marks: &mut [u16],
     ) -> Counts;
     #[allow(clippy::too_many_arguments)]
@@ -416,9 +419,10 @@ impl Board for Reference {
         presence: &[u16],
         bands: Bands,
         guests: u16,
+        minimums: &[u16],
         marks: &mut [u16],
     ) -> Counts {
-        crate::crowd::crowd_cover(head, operators, rides, presence, &bands, guests, marks)
+        crate::crowd::crowd_cover(head, operators, rides, presence, &bands, guests, minimums, marks)
     }
 
     fn own_cover(
@@ -488,6 +492,11 @@ fn checksum<T: Word>(before: u64, words: &[T]) -> u64 {
     words.iter().fold(before, |sum, word| (sum * 65_599 + word.value()) % 2_147_483_647)
 }
 
+/// That of what a peel or a cover is lent.
+fn words_checksum(parts: [&mut [u16]; 5]) -> u64 {
+    parts.iter().fold(0, |sum, words| checksum(sum, words))
+}
+
 fn head_checksum(head: Head) -> u64 {
     checksum(0, &[head.operators, head.rides, head.pairs])
 }
@@ -531,8 +540,8 @@ impl Call {
                 let marks = lend(&mut memory.marks, marks);
                 let peeled = board.peel(*head, operators, rides, presence, minimums, marks, *alpha, *beta, *steps);
                 let numbers = vec![peeled.code, peeled.settled, peeled.steps];
-                let sum = checksum(checksum(checksum(checksum(0, operators), rides), presence), minimums);
-                (Outcome { numbers, checksum: checksum(sum, marks) }, *head)
+                let checksum = words_checksum([operators, rides, presence, minimums, marks]);
+                (Outcome { numbers, checksum }, *head)
             }
             Call::Message { head, message, parts } => {
                 let mut head = *head;
@@ -554,15 +563,16 @@ impl Call {
                 let numbers = vec![limits.code, limits.alpha, limits.beta];
                 (Outcome { numbers, checksum: 0 }, Head { operators: 0, rides: 0, pairs: 0 })
             }
-            Call::CrowdCover { head, guests, bands, operators, rides, presence, marks } => {
+            Call::CrowdCover { head, guests, bands, operators, rides, presence, minimums, marks } => {
                 let operators = lend(&mut memory.parts.operators, operators);
                 let rides = lend(&mut memory.parts.rides, rides);
                 let presence = lend(&mut memory.parts.presence, presence);
+                let minimums = lend(&mut memory.minimums, minimums);
                 let marks = lend(&mut memory.marks, marks);
-                let counts = board.crowd_cover(*head, operators, rides, presence, *bands, *guests, marks);
+                let counts = board.crowd_cover(*head, operators, rides, presence, *bands, *guests, minimums, marks);
                 let numbers = vec![counts.code, counts.operators, counts.rides];
-                let sum = checksum(checksum(checksum(0, operators), rides), presence);
-                (Outcome { numbers, checksum: checksum(sum, marks) }, *head)
+                let checksum = words_checksum([operators, rides, presence, minimums, marks]);
+                (Outcome { numbers, checksum }, *head)
             }
             Call::OwnCover { head, alpha, beta, operators, rides, presence, minimums, marks } => {
                 let operators = lend(&mut memory.parts.operators, operators);
@@ -572,8 +582,8 @@ impl Call {
                 let marks = lend(&mut memory.marks, marks);
                 let counts = board.own_cover(*head, operators, rides, presence, minimums, *alpha, *beta, marks);
                 let numbers = vec![counts.code, counts.operators, counts.rides];
-                let sum = checksum(checksum(checksum(checksum(0, operators), rides), presence), minimums);
-                (Outcome { numbers, checksum: checksum(sum, marks) }, *head)
+                let checksum = words_checksum([operators, rides, presence, minimums, marks]);
+                (Outcome { numbers, checksum }, *head)
             }
         }
     }
@@ -680,6 +690,7 @@ impl<'a> Cursor<'a> {
                 operators: self.part(),
                 rides: self.part(),
                 presence: self.part(),
+                minimums: self.part(),
                 marks: self.part(),
             },
             OWN_COVER => Call::OwnCover {

@@ -250,21 +250,13 @@ fn disordered(head: Head, operators: &[u16], rides: &[u16]) -> bool {
     outside || !ascending
 }
 
-/// 1 to 5, of what a peel or a cover is lent. Document 02, 2.7: a list of minimums shorter than the rides is 3; a crowd
-/// cover is lent none.
-fn lent_number(
-    head: Head,
-    operators: &[u16],
-    rides: &[u16],
-    presence: &[u16],
-    minimums: Option<&[u16]>,
-    marks: &[u16],
-) -> u16 {
+/// 1 to 5, of what a peel or a cover is lent. Document 02, 2.7: a list of minimums shorter than the rides is 3.
+fn lent_number(head: Head, operators: &[u16], rides: &[u16], presence: &[u16], minimums: &[u16], marks: &[u16]) -> u16 {
     let (places, nodes) = (head.places(), head.nodes());
     let too_short = operators.len() < places
         || rides.len() < places
         || presence.len() < nodes
-        || minimums.is_some_and(|minimums| minimums.len() < head.rides as usize)
+        || minimums.len() < head.rides as usize
         || marks.len() < nodes;
     first_of(&[
         (1, &|| head.operators > 200),
@@ -483,16 +475,26 @@ fn indexed(head: Head, index: &[u16], alpha: u16, node: usize) -> u16 {
     }
 }
 
-/// Writes the marks of a set, and counts them. Marks past operators and rides stay.
-fn show(head: Head, set: (Set, Set), marks: &mut [u16]) -> Counts {
+/// Marks the cover with minimums, by Definition 2.1 with a limit for each ride, and counts it. All that is lent is
+/// accepted. The marks that come in aren't read, and those past operators and rides stay.
+fn show_cover(
+    head: Head,
+    operators: &[u16],
+    rides: &[u16],
+    presence: &[u16],
+    minimums: &[u16],
+    (alpha, beta): (u16, u16),
+    marks: &mut [u16],
+) -> Counts {
+    let counting = Counting::new(head, &listed(head, operators, rides), presence);
+    let set = core_by_ride(&counting, alpha as usize, |ride| ride_limit(minimums, beta, ride) as usize);
     let (operators, rides) = marks[..head.nodes()].split_at_mut(head.operators as usize);
     operators.iter_mut().enumerate().for_each(|(operator, mark)| *mark = set.0.has(operator) as u16);
     rides.iter_mut().enumerate().for_each(|(ride, mark)| *mark = set.1.has(ride) as u16);
     Counts { code: 0, operators: operators.iter().sum(), rides: rides.iter().sum() }
 }
 
-/// Document 02, 2.7: the cover with minimums, by Definition 2.1 with a limit for each ride. The marks that come in aren't
-/// read.
+/// Document 02, 2.7: the cover with minimums.
 #[allow(clippy::too_many_arguments)]
 pub fn own_cover(
     head: Head,
@@ -504,13 +506,11 @@ pub fn own_cover(
     beta: u16,
     marks: &mut [u16],
 ) -> Counts {
-    let code = lent_number(head, operators, rides, presence, Some(minimums), marks);
+    let code = lent_number(head, operators, rides, presence, minimums, marks);
     if code != 0 {
         return Counts { code, operators: 0, rides: 0 };
     }
-    let counting = Counting::new(head, &listed(head, operators, rides), presence);
-    let set = core_by_ride(&counting, alpha as usize, |ride| ride_limit(minimums, beta, ride) as usize);
-    show(head, set, marks)
+    show_cover(head, operators, rides, presence, minimums, (alpha, beta), marks)
 }
 
 #[allow(clippy::too_many_arguments)]
@@ -525,7 +525,7 @@ pub fn peel(
     beta: u16,
     steps: u16,
 ) -> Peeled {
-    let code = match lent_number(head, operators, rides, presence, Some(minimums), marks) {
+    let code = match lent_number(head, operators, rides, presence, minimums, marks) {
         0 => first_of(&[(12, &|| marks[..head.nodes()].iter().any(|mark| *mark > 1))]),
         code => code,
     };

@@ -20,7 +20,7 @@ pub struct Sample {
     pub presence: &'static [u16],
     pub minimums: &'static [u16],
     pub limits: (u16, u16),
-    /// What a cover with these minimums marks, and a settled peel from all ones leaves.
+    /// What an own cover and a crowd cover mark, and a settled peel from all ones leaves.
     pub marks: &'static [u16],
 }
 
@@ -206,7 +206,7 @@ pub const PEELS: &[Peel] = &[
 
 // Short lists
 
-/// A head, so many places of minimums, and the number that a peel and a cover get, with every other part long enough.
+/// A head, so many places of minimums, and the number that a peel and the covers get, with every other part long enough.
 pub type Short = (Head, usize, u16);
 
 /// As far as a head counts them, the pairs are the board's.

@@ -1194,6 +1194,7 @@ fn frames_are_read_as_written() {
             operators: kept.clone(),
             rides: given.clone(),
             presence: presence.clone(),
+            minimums: Part::given(6, &[7, 0, 256], 1),
             marks: changed.clone(),
         },
         Call::OwnCover {

@@ -4,7 +4,8 @@
 
 use reference::corrections::{Corrections, BESIDE_14, CORRECTIONS, SHORT_REVISIONS};
 use reference::crowd::{crowd_limits, Band, Bands, BANDS_MOST, GUESTS_MOST};
-use reference::crowd_samples::{followed, Lent, BESIDE, CROWD_COVERS, FIVE, LENT, LOOK_UPS, REFUSED, UNREAD};
+use reference::crowd_samples::WITH_MINIMUMS;
+use reference::crowd_samples::{followed, Asked, Lent, BESIDE, CROWD_COVERS, FIVE, LENT, LOOK_UPS, REFUSED, UNREAD};
 use reference::frames::{
     replay_cover, write_end, Call, Framed, Memory, Outcome, Part, Reference, MINIMUM_PLACES, PLACES,
 };
@@ -152,24 +153,24 @@ const TAKEN: [&str; 7] = [
     "grant or withdrawal taken whose operator is off or ride out",
 ];
 
-/// The tables and guest counts of look-ups and crowd covers. The last is for crowd covers alone.
-const CROWDS: [&str; 7] = [
+/// The tables and guest counts of look-ups and crowd covers.
+const CROWDS: [&str; 6] = [
     "one band",
     "eight bands",
     "bands in no ascending order",
     "a guest count that is the first of its band",
     "a guest count that is the last of its band",
     "a guest count that has a band of its own",
-    "a mark above 1 comes in",
 ];
 
-/// The minimums of peels and own covers. The last is for own covers alone.
-const MINIMUMS: [&str; 13] = [
+/// The minimums of peels, own covers and crowd covers. The last is for covers alone.
+const MINIMUMS: [&str; 14] = [
     "no ride has a minimum",
     "some rides have a minimum, and some none",
     "every ride has a minimum",
     "all of two rides or more have the same minimum",
     "a minimum below beta",
+    "a minimum equal to beta",
     "a minimum above beta",
     "a minimum where beta is 0",
     "a minimum of 65535",
@@ -180,11 +181,15 @@ const MINIMUMS: [&str; 13] = [
     "a mark above 1 comes in",
 ];
 
-/// A peel or own cover that is refused for this alone.
-const SHORT_LIST: &str = "a list of minimums that is one place too short";
+/// The lists of minimums that a peel or a cover is refused for. The last is for crowd covers alone.
+const SHORT_LISTS: [&str; 3] = [
+    "a list of minimums that is one place too short, and nothing else refused",
+    "a list of minimums that is too short, before 4 or 5",
+    "a list of minimums that is too short, before 16, 17 or 18",
+];
 
 /// How often each call gave each number, and how often it was of each kind of `ZEROS`, `ABSENCES`, `TAKEN`, `CROWDS` and
-/// `MINIMUMS`, without being refused, or refused for a `SHORT_LIST`.
+/// `MINIMUMS`, without being refused, or of `SHORT_LISTS`.
 #[derive(Default)]
 struct Tally {
     numbers: BTreeMap<(&'static str, u16), usize>,
@@ -241,8 +246,8 @@ impl Tally {
         self.is_of(name, &TAKEN, &are);
     }
 
-    /// Counts a look-up or crowd cover under each kind of `CROWDS`, of which the last is given.
-    fn crowd(&mut self, name: &'static str, bands: &Bands, guests: u16, last: bool) {
+    /// Counts a look-up or crowd cover under each kind of `CROWDS`.
+    fn crowd(&mut self, name: &'static str, bands: &Bands, guests: u16) {
         let read = &bands.bands[..bands.count as usize];
         let is_first = read.iter().any(|band| band.first == guests);
         let is_last = read.iter().any(|band| band.last == guests);
@@ -253,7 +258,6 @@ impl Tally {
             is_first,
             is_last,
             is_first && is_last,
-            last,
         ];
         self.is_of(name, &CROWDS, &are);
     }
@@ -361,17 +365,17 @@ impl Stream {
             Call::CrowdLimits { guests, bands } => {
                 tally.gave("crowd limits", code);
                 if code == 0 {
-                    tally.crowd("crowd limits", bands, *guests, false);
+                    tally.crowd("crowd limits", bands, *guests);
                 }
             }
-            Call::CrowdCover { head, guests, bands, marks, .. } => {
+            Call::CrowdCover { head, guests, bands, .. } => {
                 tally.gave("crowd cover", code);
                 if code == 0 {
                     let limits = crowd_limits(bands, *guests);
                     let (alpha, beta, presence) = (limits.alpha, limits.beta, &presence[..head.nodes()]);
                     tally.limits("crowd cover", *head, alpha, beta, &[]);
                     tally.absences("crowd cover", *head, (alpha, beta) == (0, 0), presence, [false; 2]);
-                    tally.crowd("crowd cover", bands, *guests, marks.fill.is_some_and(|mark| mark > 1));
+                    tally.crowd("crowd cover", bands, *guests);
                 }
             }
             Call::OwnCover { head, alpha, beta, .. } => {
@@ -385,19 +389,24 @@ impl Stream {
         }
     }
 
-    /// Counts a peel or own cover that was made under each kind of `MINIMUMS`, or as a `SHORT_LIST`, by its number and the
-    /// marks left, and by those without minimums.
+    /// Counts a peel or cover that was made under each kind of `MINIMUMS` or `SHORT_LISTS`, by its number and the marks
+    /// left, and by those without minimums.
     fn count_minimums(&mut self, call: &Call, code: u16, (number, without): (u16, Vec<u16>)) {
+        let is_above_1 = |marks: &Part<u16>| marks.fill.is_some_and(|mark| mark > 1);
         let (name, head, beta, lent, last) = match call {
             Call::Peel { head, beta, minimums, .. } => ("peel", head, *beta, minimums.len, false),
             Call::OwnCover { head, beta, minimums, marks, .. } => {
-                ("own cover", head, *beta, minimums.len, marks.fill.is_some_and(|mark| mark > 1))
+                ("own cover", head, *beta, minimums.len, is_above_1(marks))
+            }
+            Call::CrowdCover { head, guests, bands, minimums, marks, .. } => {
+                ("crowd cover", head, crowd_limits(bands, *guests).beta, minimums.len, is_above_1(marks))
             }
             _ => return,
         };
         let (operators, rides) = (head.operators as usize, head.rides as usize);
         if code != 0 {
-            return self.tally.is_of(name, &[SHORT_LIST], &[code == 3 && number == 0 && lent + 1 == rides]);
+            let are = [number == 0 && lent + 1 == rides, [4, 5].contains(&number), (16..=18).contains(&number)];
+            return self.tally.is_of(name, &SHORT_LISTS, &are.map(|is| code == 3 && is));
         }
         let (read, past) = self.memory.minimums[..lent].split_at(rides);
         let own: Vec<u16> = read.iter().copied().filter(|word| *word != 0).collect();
@@ -409,6 +418,7 @@ impl Stream {
             own.len() == rides && rides > 0,
             own.len() == rides && rides > 1 && own.iter().all(|word| *word == own[0]),
             own.iter().any(|word| *word < beta),
+            own.contains(&beta),
             own.iter().any(|word| *word > beta),
             beta == 0 && !own.is_empty(),
             own.contains(&65_535),
@@ -428,11 +438,15 @@ impl Stream {
     }
 }
 
-/// The number of a peel or own cover, and the marks that it would leave, where no ride has a minimum.
+/// The number of a peel or cover, and the marks that it would leave, where no ride has a minimum.
 fn without_minimums(call: &Call, memory: &Memory) -> Option<(u16, Vec<u16>)> {
     let mut call = call.clone();
-    let (Call::Peel { minimums, .. } | Call::OwnCover { minimums, .. }) = &mut call else { return None };
-    *minimums = Part::filled(MINIMUM_PLACES, 0);
+    match &mut call {
+        Call::Peel { minimums, .. } | Call::OwnCover { minimums, .. } | Call::CrowdCover { minimums, .. } => {
+            *minimums = Part::filled(MINIMUM_PLACES, 0)
+        }
+        _ => return None,
+    }
     let mut memory = memory.clone();
     let (outcome, _) = call.run(&mut Reference, &mut memory);
     Some((outcome.numbers[0], memory.marks))
@@ -507,9 +521,9 @@ impl Draft {
         Call::OwnCover { head: self.head, alpha, beta, operators, rides, presence, minimums, marks }
     }
 
-    fn crowd_cover(&self, (bands, guests): (Bands, u16), marks: Part<u16>) -> Call {
+    fn crowd_cover(&self, (bands, guests): (Bands, u16), minimums: Part<u16>, marks: Part<u16>) -> Call {
         let Parts { operators, rides, presence, .. } = self.parts();
-        Call::CrowdCover { head: self.head, guests, bands, operators, rides, presence, marks }
+        Call::CrowdCover { head: self.head, guests, bands, operators, rides, presence, minimums, marks }
     }
 
     /// A size above its bound. The parts may be lent as long as that size would need.
@@ -664,6 +678,13 @@ fn some_minimums(random: &mut Random, head: Head, beta: u16, is_short: bool) -> 
     Part::given(len, &words, random.word())
 }
 
+/// The same from a generator of its own, one in twelve too short.
+fn other_minimums(random: &Random, head: Head, beta: u16) -> Part<u16> {
+    let mut others = random.others();
+    let is_short = others.one_in(12);
+    some_minimums(&mut others, head, beta, is_short)
+}
+
 /// A list of these minimums, and past the rides any word.
 fn these_minimums(random: &Random, minimums: &[u16]) -> Part<u16> {
     let mut others = random.others();
@@ -673,6 +694,18 @@ fn these_minimums(random: &Random, minimums: &[u16]) -> Part<u16> {
 /// No ride has a minimum.
 fn no_minimums(random: &Random, head: Head) -> Part<u16> {
     these_minimums(random, &vec![0; head.rides as usize])
+}
+
+/// Each ride has none, or beta: a minimum that changes nothing.
+fn idle_minimums(random: &Random, head: Head, beta: u16) -> Part<u16> {
+    let mut others = random.others();
+    let minimums: Vec<u16> = (0..head.rides).map(|_| others.pick(&[0, beta])).collect();
+    these_minimums(random, &minimums)
+}
+
+/// Minimums for a board of 200 by 60 with 2,000 pairs.
+fn large_minimums(random: &mut Random) -> Vec<u16> {
+    minimums_of(random, 60, |random| random.pick(&[1, 20, 24, 28, 33, 65_535]))
 }
 
 // Single calls
@@ -763,9 +796,7 @@ fn peel_case(random: &mut Random) -> Call {
             }
         }
     }
-    let mut others = random.others();
-    let is_short = others.one_in(12);
-    let minimums = some_minimums(&mut others, draft.head, beta, is_short);
+    let minimums = other_minimums(random, draft.head, beta);
     draft.peel(alpha, beta, steps, minimums, Part::given(marks_len, &words, random.word()))
 }
 
@@ -1054,7 +1085,8 @@ fn crowd_cover_case(random: &mut Random) -> Call {
             _ => draft.disorder(random),
         }
     }
-    draft.crowd_cover(crowd, marks)
+    let minimums = other_minimums(random, draft.head, crowd_limits(&crowd.0, crowd.1).beta);
+    draft.crowd_cover(crowd, minimums, marks)
 }
 
 // Calls on a board that stays
@@ -1428,51 +1460,110 @@ fn sample_presence(random: &mut Random, stream: &mut Stream) {
 /// Document 02's limits by crowd, with what was worked out by hand.
 fn sample_crowds(random: &mut Random, stream: &mut Stream) {
     let draft = with_presence(random, &[PRESENT; 7]);
-    let some_marks = |random: &mut Random| Part::filled(random.length(7), random.word());
     for (table, asked) in LOOK_UPS {
-        for &(guests, (alpha, beta), marks) in *asked {
-            let bands = followed(*table, random.pick(&UNREAD));
-            stream.gives(Call::CrowdLimits { guests, bands }, &[0, alpha, beta], &[]);
-            let cover = draft.crowd_cover((bands, guests), some_marks(random));
-            stream.gives(cover, &[0, marks[..4].iter().sum(), marks[4..].iter().sum()], &marks);
-        }
+        sample_band(random, stream, &draft, *table, asked, |random, beta| idle_minimums(random, BUILT, beta));
     }
     for sample in LIMITS_FROM_0 {
-        let mut bands = some_bands(random, |random| (limit(random, 3), limit(random, 4)));
-        let guests = some_guests(random, &bands);
-        let band = bands.bands.iter_mut().find(|band| band.first <= guests && guests <= band.last).unwrap();
-        (band.alpha, band.beta) = (sample.alpha, sample.beta);
+        let crowd = some_crowd_for(random, (sample.alpha, sample.beta));
         let mut draft = Draft::new(random, sample.operators, sample.rides, sample.pairs);
         draft.words.presence = vec![PRESENT; draft.head.nodes()];
+        let minimums = idle_minimums(random, draft.head, sample.beta);
         let marks = Part::filled(random.length(draft.head.nodes()), random.word());
         let [operators, rides] = sample.counts();
-        stream.gives(draft.crowd_cover((bands, guests), marks), &[0, operators, rides], sample.marks);
+        stream.gives(draft.crowd_cover(crowd, minimums, marks), &[0, operators, rides], sample.marks);
     }
     for &(words, guests, marks) in CROWD_COVERS {
-        let cover = with_presence(random, &words).crowd_cover((FIVE, guests), some_marks(random));
+        let draft = with_presence(random, &words);
+        let minimums = idle_minimums(random, BUILT, crowd_limits(&FIVE, guests).beta);
+        let cover = draft.crowd_cover((FIVE, guests), minimums, seven_marks(random));
         stream.gives(cover, &[0, marks[..4].iter().sum(), marks[4..].iter().sum()], &marks);
     }
     for &(table, guests, number) in REFUSED {
         stream.gives(Call::CrowdLimits { guests, bands: table }, &[number, 0, 0], &[]);
         let bands = followed(table, random.pick(&UNREAD));
-        let marks = some_marks(random);
-        let cover = draft.crowd_cover((bands, guests), marks.clone());
+        let minimums = some_minimums(&mut random.others(), BUILT, 2, false);
+        let marks = seven_marks(random);
+        let cover = draft.crowd_cover((bands, guests), minimums, marks.clone());
         stream.gives(cover, &[number, 0, 0], &[marks.fill.unwrap(); 7]);
     }
+    sample_refusals(random, stream, 3);
+}
+
+/// Marks for document 01's board.
+fn seven_marks(random: &mut Random) -> Part<u16> {
+    Part::filled(random.length(7), random.word())
+}
+
+/// Look-ups and crowd covers in a table, with what was worked out by hand. A function gives the minimums for a band's beta.
+fn sample_band(
+    random: &mut Random,
+    stream: &mut Stream,
+    draft: &Draft,
+    table: Bands,
+    asked: &[Asked],
+    minimums: impl Fn(&Random, u16) -> Part<u16>,
+) {
+    for &(guests, (alpha, beta), marks) in asked {
+        let bands = followed(table, random.pick(&UNREAD));
+        stream.gives(Call::CrowdLimits { guests, bands }, &[0, alpha, beta], &[]);
+        let minimums = minimums(random, beta);
+        let cover = draft.crowd_cover((bands, guests), minimums, seven_marks(random));
+        stream.gives(cover, &[0, marks[..4].iter().sum(), marks[4..].iter().sum()], &marks);
+    }
+}
+
+/// A table, and a guest count whose band has these limits.
+fn some_crowd_for(random: &mut Random, limits: (u16, u16)) -> (Bands, u16) {
+    let mut bands = some_bands(random, |random| (limit(random, 3), limit(random, 4)));
+    let guests = some_guests(random, &bands);
+    let band = bands.bands.iter_mut().find(|band| band.first <= guests && guests <= band.last).unwrap();
+    (band.alpha, band.beta) = limits;
+    (bands, guests)
+}
+
+/// Crowd covers that are refused for the board and for the table, and lent so many places of minimums.
+fn sample_refusals(random: &mut Random, stream: &mut Stream, minimums: usize) {
     for Lent { head, pairs, places, number } in LENT {
+        let number = if minimums < 3 && ![1, 2].contains(number) { 3 } else { *number };
         for (bands, guests, beside) in BESIDE {
             let mut draft = Draft::new(random, 4, 3, pairs);
             (draft.head, draft.words.presence) = (*head, vec![PRESENT; 7]);
             (draft.lengths.operators, draft.lengths.rides, draft.lengths.presence) = (places[0], places[1], places[2]);
-            let (outcome, _) = stream.call(draft.crowd_cover((bands, guests), Part::filled(places[3], 7)));
+            let (minimums, marks) = (Part::filled(minimums, 0), Part::filled(places[3], 7));
+            let (outcome, _) = stream.call(draft.crowd_cover((bands, guests), minimums, marks));
             // Where nothing is refused the cover is (1, 3).
-            let numbers = match (*number, beside) {
+            let numbers = match (number, beside) {
                 (0, 0) => [0, 3, 1],
                 (0, code) | (code, _) => [code, 0, 0],
             };
             assert_eq!(outcome.numbers, numbers);
         }
     }
+}
+
+/// Document 02's crowd covers with own minimums, with what was worked out by hand.
+fn sample_crowd_minimums(random: &mut Random, stream: &mut Stream) {
+    let draft = with_presence(random, &[PRESENT; 7]);
+    for (table, minimums, asked) in WITH_MINIMUMS {
+        sample_band(random, stream, &draft, *table, asked, |random, _| these_minimums(random, minimums));
+    }
+    for sample in minimums::COVERS {
+        let crowd = some_crowd_for(random, sample.limits);
+        let mut draft = Draft::new(random, sample.operators, sample.rides, sample.pairs);
+        draft.words.presence = sample.presence.to_vec();
+        let [operators, rides] = sample.counts();
+        let minimums = these_minimums(random, sample.minimums);
+        let marks = Part::filled(random.length(draft.head.nodes()), random.word());
+        stream.gives(draft.crowd_cover(crowd, minimums, marks), &[0, operators, rides], sample.marks);
+    }
+    for &(head, places, number) in minimums::SHORT {
+        let draft = with_all(random, head, &PAIRS[..(head.pairs as usize).min(7)]);
+        let (minimums, marks) = (Part::filled(places, random.word()), all_ones(random, head));
+        let (bands, guests, beside) = random.pick(&BESIDE);
+        let number = if number == 0 { beside } else { number };
+        assert_eq!(stream.call(draft.crowd_cover((bands, guests), minimums, marks)).0.numbers[0], number);
+    }
+    sample_refusals(random, stream, 2);
 }
 
 /// Document 02's own minimums of rides, with what was worked out by hand: own covers and peels.
@@ -1676,8 +1767,15 @@ fn large_crowds(random: &mut Random, stream: &mut Stream) {
             4 | 8 | 12 => Part::changed(presence.len, 0, &presence_of(random, nodes)),
             _ => presence,
         };
+        // No ride has a minimum for four turns, then some have others three times.
+        let mut others = random.others();
+        let minimums = match turn {
+            0 => no_minimums(random, draft.head),
+            4 | 8 | 12 => these_minimums(random, &large_minimums(&mut others)),
+            _ => Part::kept(others.length(60)),
+        };
         let marks = Part::filled(random.length(nodes), random.word());
-        stream.call(Call::CrowdCover { head: draft.head, guests, bands, operators, rides, presence, marks });
+        stream.call(Call::CrowdCover { head: draft.head, guests, bands, operators, rides, presence, minimums, marks });
     }
 }
 
@@ -1698,7 +1796,7 @@ fn large_own_covers(random: &mut Random, stream: &mut Stream) {
         };
         let minimums = match turn % 4 {
             0 => {
-                let words = minimums_of(random, 60, |random| random.pick(&[1, 20, 24, 28, 33, 65_535]));
+                let words = large_minimums(random);
                 these_minimums(random, &words)
             }
             _ => Part::kept(random.length(60)),
@@ -1707,10 +1805,20 @@ fn large_own_covers(random: &mut Random, stream: &mut Stream) {
         stream.call(Call::OwnCover { head, alpha, beta, operators, rides, presence, minimums, marks });
     }
     let Parts { operators, rides, presence, .. } = whole_parts(random, head);
-    let (short, marks) = (Part::kept(59), all_ones(random, head));
-    let peel = kept_peel(random, head, (1, 1), 65_535, short.clone(), marks.clone());
-    let cover = Call::OwnCover { head, alpha: 1, beta: 1, operators, rides, presence, minimums: short, marks };
-    for call in [peel, cover] {
+    let (minimums, marks) = (Part::kept(59), all_ones(random, head));
+    let peel = kept_peel(random, head, (1, 1), 65_535, minimums.clone(), marks.clone());
+    let crowd = Call::CrowdCover {
+        head,
+        guests: 5_000,
+        bands: FIVE,
+        operators: operators.clone(),
+        rides: rides.clone(),
+        presence: presence.clone(),
+        minimums: minimums.clone(),
+        marks: marks.clone(),
+    };
+    let own = Call::OwnCover { head, alpha: 1, beta: 1, operators, rides, presence, minimums, marks };
+    for call in [peel, own, crowd] {
         assert_eq!(stream.call(call).0.numbers, [3, 0, 0]);
     }
 }
@@ -1856,6 +1964,11 @@ fn calls(random: &mut Random) -> Stream {
         stream.call(case);
     }
     large_own_covers(random, &mut stream);
+    sample_crowd_minimums(random, &mut stream);
+    for _ in 0..100 {
+        let case = crowd_cover_case(random);
+        stream.call(case);
+    }
     write_end(&mut stream.bytes);
     let tally = &stream.tally;
     tally.covers("build", &[0, 1, 2, 3, 4, 5, 9], 60);
@@ -1872,13 +1985,15 @@ fn calls(random: &mut Random) -> Stream {
     tally.covers_kinds("crowd cover", &CROWDS, 5);
     tally.covers_kinds("crowd cover", &ZEROS[..6], 3);
     tally.covers_kinds("crowd cover", &ABSENCES[..4], 5);
-    tally.covers_kinds("peel", &MINIMUMS[..12], 30);
-    tally.covers_kinds("peel", &[SHORT_LIST], 30);
+    tally.covers_kinds("crowd cover", &MINIMUMS, 10);
+    tally.covers_kinds("crowd cover", &SHORT_LISTS, 5);
+    tally.covers_kinds("peel", &MINIMUMS[..13], 30);
+    tally.covers_kinds("peel", &SHORT_LISTS[..2], 20);
     tally.covers("own cover", &[0, 1, 2, 3, 4, 5], 10);
     tally.covers_kinds("own cover", &ZEROS[..6], 5);
     tally.covers_kinds("own cover", &ABSENCES[..4], 5);
     tally.covers_kinds("own cover", &MINIMUMS, 10);
-    tally.covers_kinds("own cover", &[SHORT_LIST], 10);
+    tally.covers_kinds("own cover", &SHORT_LISTS[..2], 10);
     stream
 }
 

@@ -1,8 +1,9 @@
 //! Limits by crowd: samples by hand, numbers beside two other ways to find them, and covers beside queries and peels.
 
+use super::minimums::words_of;
 use super::*;
 use crate::crowd::{crowd_cover, crowd_limits, Band, Bands, CrowdLimits};
-use crate::crowd_samples::{followed, Lent, BESIDE, CROWD_COVERS, FIVE, LENT, LOOK_UPS, REFUSED, UNREAD};
+use crate::crowd_samples::{followed, Asked, CROWD_COVERS, FIVE, LOOK_UPS, REFUSED, UNREAD, WITH_MINIMUMS};
 use crate::frames::{replay, write_end, Call, Part, Reference};
 
 /// A table, and the same with each of `UNREAD` past the count.
@@ -17,32 +18,50 @@ fn one_band(alpha: u16, beta: u16) -> Bands {
     bands
 }
 
+/// Guest counts 99 and 100 have these limits, and the bands on both sides others.
+pub(super) fn three_bands((alpha, beta): (u16, u16)) -> Bands {
+    let band = |first, last, alpha, beta| Band { first, last, alpha, beta };
+    let mut bands = Bands { count: 3, ..Bands::default() };
+    bands.bands[..3].copy_from_slice(&[
+        band(101, 20_000, alpha ^ 1, beta),
+        band(99, 100, alpha, beta),
+        band(0, 98, alpha, beta ^ 1),
+    ]);
+    bands
+}
+
 /// The answer of a crowd cover, and the marks that it leaves: two more are lent than needed, and all come in as one word.
-fn covered(board: &Store, bands: &Bands, guests: u16, word: u16) -> (Counts, Vec<u16>) {
+pub(super) fn covered(board: &Store, bands: &Bands, guests: u16, minimums: &[u16], word: u16) -> (Counts, Vec<u16>) {
     let Vectors { operators, rides, presence, .. } = &board.parts;
     let mut marks = vec![word; board.head.nodes() + 2];
-    let counts = crowd_cover(board.head, operators, rides, presence, bands, guests, &mut marks);
+    let counts = crowd_cover(board.head, operators, rides, presence, bands, guests, minimums, &mut marks);
     (counts, marks)
 }
 
-/// What a refused crowd cover gives.
-fn not_shown(code: u16, marks: usize, word: u16) -> (Counts, Vec<u16>) {
-    (Counts { code, operators: 0, rides: 0 }, vec![word; marks])
+/// Look-ups and covers in a table give what was worked out by hand. A function gives the minimums for a band's beta.
+fn are_given(table: Bands, asked: &[Asked], minimums: impl Fn(u16) -> [u16; 3]) {
+    let board = sample(START);
+    for (bands, &(guests, (alpha, beta), marks)) in
+        tables(table).iter().flat_map(|bands| asked.iter().map(move |asked| (bands, asked)))
+    {
+        assert_eq!(crowd_limits(bands, guests), CrowdLimits { code: 0, alpha, beta });
+        // The marks that come in aren't read.
+        for word in [0, 1, 7, 65_535] {
+            assert_eq!(covered(&board, bands, guests, &minimums(beta), word), shown(board.head, &marks, word));
+        }
+    }
 }
 
+/// Minimums that are 0 or the band's beta change nothing.
 #[test]
 fn look_ups_and_covers() {
-    let board = sample(START);
     for (table, asked) in LOOK_UPS {
-        for (bands, &(guests, (alpha, beta), marks)) in
-            tables(*table).iter().flat_map(|bands| asked.iter().map(move |asked| (bands, asked)))
-        {
-            assert_eq!(crowd_limits(bands, guests), CrowdLimits { code: 0, alpha, beta });
-            // The marks that come in aren't read.
-            for word in [0, 1, 7, 65_535] {
-                assert_eq!(covered(&board, bands, guests, word), shown(board.head, &marks, word));
-            }
+        for own in [[0; 3], [1; 3], [0, 1, 0]] {
+            are_given(*table, asked, |beta| own.map(|one| one * beta));
         }
+    }
+    for (table, minimums, asked) in WITH_MINIMUMS {
+        are_given(*table, asked, |_| *minimums);
     }
 }
 
@@ -53,7 +72,10 @@ fn crowd_covers_from_0() {
         let mut board = Store::new(sample.operators, sample.rides, sample.pairs);
         assert_eq!(board.build(1), 0);
         let bands = one_band(sample.alpha, sample.beta);
-        assert_eq!(covered(&board, &bands, 20_000, 7), shown(board.head, sample.marks, 7));
+        for minimum in [0, sample.beta] {
+            let minimums = vec![minimum; sample.rides as usize];
+            assert_eq!(covered(&board, &bands, 20_000, &minimums, 7), shown(board.head, sample.marks, 7));
+        }
     }
 }
 
@@ -62,7 +84,7 @@ fn crowd_covers_of_the_absent() {
     for &(words, guests, marks) in CROWD_COVERS {
         for word in [0, 1, 7] {
             let board = with_presence(&words);
-            assert_eq!(covered(&board, &FIVE, guests, word), shown(board.head, &marks, word));
+            assert_eq!(covered(&board, &FIVE, guests, &[0; 3], word), shown(board.head, &marks, word));
         }
     }
 }
@@ -73,27 +95,9 @@ fn refused_tables() {
     for &(table, guests, code) in REFUSED {
         for bands in tables(table) {
             assert_eq!(crowd_limits(&bands, guests), CrowdLimits { code, alpha: 0, beta: 0 });
-            for word in [0, 1, 7] {
-                assert_eq!(covered(&board, &bands, guests, word), not_shown(code, 9, word));
-            }
-        }
-    }
-}
-
-/// 1 to 5 come before 16, 17 and 18.
-#[test]
-fn numbers_before_16() {
-    for Lent { head, pairs, places, number } in LENT {
-        let (operators, rides): (Vec<u16>, Vec<u16>) = pairs.iter().copied().unzip();
-        let lent = |words: &[u16], places: usize| words.iter().copied().chain([0; 12]).take(places).collect::<Vec<_>>();
-        let (operators, rides, presence) = (lent(&operators, places[0]), lent(&rides, places[1]), vec![1; places[2]]);
-        for (bands, guests, beside) in BESIDE {
-            let code = if *number != 0 { *number } else { beside };
-            let mut marks = vec![7; places[3]];
-            let counts = crowd_cover(*head, &operators, &rides, &presence, &bands, guests, &mut marks);
-            assert_eq!(counts.code, code);
-            if code != 0 {
-                assert_eq!((counts, marks), not_shown(code, places[3], 7));
+            for (minimums, word) in [([0; 3], 0), ([0; 3], 1), ([9, 0, 65_535], 7)] {
+                let refused = Counts { code, operators: 0, rides: 0 };
+                assert_eq!(covered(&board, &bands, guests, &minimums, word), (refused, vec![word; 9]));
             }
         }
     }
@@ -208,50 +212,48 @@ fn numbers_of_random_tables() {
     assert!([0, 16, 17, 18].iter().all(|code| given[*code] > 300), "{given:?}");
 }
 
-/// On every table of a few small sizes, with everybody on and in and with some off or out: a crowd cover marks and
-/// counts what a query does by the index, and marks what a peel from all ones leaves.
+/// On every table of a few small sizes, with everybody on and in and with some off or out: a crowd cover with minimums that
+/// are 0 or the band's beta marks and counts what a query does by the index, and marks what a peel from all ones leaves.
 #[test]
 fn crowd_covers_are_covers() {
     for (n, m) in [(0, 0), (0, 2), (2, 0), (2, 2), (1, 3), (3, 2)] {
         // Those who are off or out, as bits.
         for (board, _) in boards(n, m, &[0, 1, 1 << n, 1 << 1 | 1 << n]) {
             for (alpha, beta) in (0..m as u16 + 2).flat_map(|alpha| (0..n as u16 + 2).map(move |beta| (alpha, beta))) {
-                // The bands on both sides have other limits.
-                let band = |first, last, alpha, beta| Band { first, last, alpha, beta };
-                let three =
-                    [band(101, 20_000, alpha + 1, beta), band(99, 100, alpha, beta), band(0, 98, alpha, beta + 1)];
-                let mut bands = Bands { count: 3, ..Bands::default() };
-                bands.bands[..3].copy_from_slice(&three);
                 let (counts, marks) = board.query(alpha, beta);
                 let mut peeled = vec![1; n + m];
                 assert_eq!(board.peel(&mut peeled, alpha, beta, 65_535).settled, 1);
                 assert_eq!(peeled, marks);
-                for guests in [99, 100] {
-                    assert_eq!(covered(&board, &bands, guests, 7), (counts, [&marks[..], &[7; 2]].concat()));
+                for (guests, minimums) in [99, 100].into_iter().cycle().zip(words_of(m, &[0, beta])) {
+                    let covered = covered(&board, &three_bands((alpha, beta)), guests, &minimums, 7);
+                    assert_eq!(covered, (counts, [&marks[..], &[7; 2]].concat()));
                 }
             }
         }
     }
 }
 
-/// A look-up's checksum is that of no words, a crowd cover's that of operators, rides, presence and marks.
+/// A look-up's checksum is that of no words, a crowd cover's that of operators, rides, presence, minimums and marks.
 #[test]
 fn lines_of_a_stream() {
     let head = Head { operators: 1, rides: 1, pairs: 1 };
     let bands = one_band(1, 0);
-    let cover = |guests| Call::CrowdCover {
+    let cover = |guests, minimums| Call::CrowdCover {
         head,
         guests,
         bands,
         operators: Part::given(2, &[0, 3], 0),
         rides: Part::filled(1, 0),
         presence: Part::filled(2, 1),
+        minimums,
         marks: Part::given(3, &[7, 7, 5], 0),
     };
     let mut stream = Vec::new();
-    for call in [Call::CrowdLimits { guests: 9, bands }, cover(9), cover(20_001)] {
+    let (lent, short) = (Part::given(2, &[1, 6], 0), Part::kept(0));
+    for call in [Call::CrowdLimits { guests: 9, bands }, cover(9, lent), cover(20_001, Part::kept(2)), cover(9, short)]
+    {
         call.write(&mut stream);
     }
     write_end(&mut stream);
-    assert_eq!(replay(&stream, &mut Reference), "0 1 0 0\n0 1 1 927099214\n16 0 0 977061850\n");
+    assert_eq!(replay(&stream, &mut Reference), "0 1 0 0\n0 1 1 1719058002\n16 0 0 1769020638\n3 0 0 977061850\n");
 }

@@ -1,8 +1,10 @@
 //! Own minimums of rides: samples by hand, Definition 2.1 with a limit for each ride over every set, and covers beside
 //! queries and peels.
 
+use super::crowd::{self, three_bands};
 use super::*;
-use crate::crowd_samples::{Lent, LENT};
+use crate::crowd::crowd_cover;
+use crate::crowd_samples::{Lent, BESIDE, LENT};
 use crate::frames::{replay, write_end, Call, Part, Reference};
 use crate::minimums::{COVERS, PEELS, SHORT};
 use std::iter::repeat;
@@ -32,6 +34,7 @@ fn covers_with_minimums() {
             for word in [0, 1, 7, 65_535] {
                 let expected = shown(board.head, sample.marks, word);
                 assert_eq!(covered(&board, &minimums, sample.limits, word), expected);
+                assert_eq!(crowd::covered(&board, &three_bands(sample.limits), 99, &minimums, word), expected);
             }
             let mut marks = vec![1; sample.marks.len()];
             let peeled = board.peel_with(&minimums, &mut marks, sample.limits, 65_535);
@@ -52,16 +55,25 @@ fn peels_with_minimums() {
 }
 
 /// The number of a peel and of a cover with minimums, the marks all 7, and of a peel with the marks all 1. Refused, they
-/// leave the marks.
+/// leave the marks. Every ride has a minimum: a crowd cover gives what the own cover does, but 16 to 18 where that isn't
+/// refused.
 fn numbers(head: Head, pairs: &[(u16, u16)], places: [usize; 4], minimums: usize) -> [u16; 3] {
     let lent = |words: Vec<u16>, places: usize| words.into_iter().chain(repeat(0)).take(places).collect::<Vec<u16>>();
     let (operators, rides): (Vec<u16>, Vec<u16>) = pairs.iter().copied().unzip();
     let (operators, rides) = (lent(operators, places[0]), lent(rides, places[1]));
     let (presence, minimums) = (vec![1; places[2]], vec![1; minimums]);
+    let not_shown = |code: u16| (Counts { code, operators: 0, rides: 0 }, vec![7; places[3]]);
     let mut marks = vec![7; places[3]];
     let cover = own_cover(head, &operators, &rides, &presence, &minimums, 1, 1, &mut marks);
+    let covered = (cover, marks);
     if cover.code != 0 {
-        assert_eq!((cover, marks), (Counts { code: cover.code, operators: 0, rides: 0 }, vec![7; places[3]]));
+        assert_eq!(covered, not_shown(cover.code));
+    }
+    for (bands, guests, beside) in BESIDE {
+        let mut marks = vec![7; places[3]];
+        let crowd = crowd_cover(head, &operators, &rides, &presence, &bands, guests, &minimums, &mut marks);
+        let is_refused = cover.code == 0 && beside != 0;
+        assert_eq!((crowd, marks), if is_refused { not_shown(beside) } else { covered.clone() });
     }
     let peels = [7, 1].map(|word| {
         let mut marks = vec![word; places[3]];
@@ -85,8 +97,8 @@ fn short_minimums() {
     }
 }
 
-/// 1 to 5, each part long enough or too short: a list of minimums that is too short gets 3, after 1 and 2 and before 4, 5
-/// and 12.
+/// 1 to 5, each part long enough or too short: a list of minimums that is too short gets 3, after 1 and 2 and before 4, 5,
+/// 12 and 16 to 18.
 #[test]
 fn numbers_beside_short_minimums() {
     for Lent { head, pairs, places, number } in LENT {
@@ -99,13 +111,14 @@ fn numbers_beside_short_minimums() {
 }
 
 /// Every list of so many words, each one of these.
-fn words_of(count: usize, these: &[u16]) -> Vec<Vec<u16>> {
+pub(super) fn words_of(count: usize, these: &[u16]) -> Vec<Vec<u16>> {
     (0..count).fold(vec![vec![]], |lists, _| {
         lists.iter().flat_map(|list| these.iter().map(move |word| [&list[..], &[*word]].concat())).collect()
     })
 }
 
-/// On every small table the largest set from all ones is what a cover with minimums marks.
+/// On every small table the largest set from all ones is what an own cover marks, and on the smaller of them, as a look-up
+/// takes its time, what a crowd cover marks.
 #[test]
 fn cover_is_the_largest_with_minimums() {
     for (n, m, these) in [
@@ -125,8 +138,12 @@ fn cover_is_the_largest_with_minimums() {
                 .flat_map(|alpha| [0, 1, n as u16].map(|beta| (alpha, beta)))
                 .flat_map(|limits| words_of(m, these).into_iter().map(move |minimums| (limits, minimums)))
             {
-                let largest = largest(&board, &minimums, (alpha, beta));
-                assert_eq!(covered(&board.0, &minimums, (alpha, beta), 7), shown(board.0.head, &largest, 7));
+                let expected = shown(board.0.head, &largest(&board, &minimums, (alpha, beta)), 7);
+                assert_eq!(covered(&board.0, &minimums, (alpha, beta), 7), expected);
+                if n + m < 5 {
+                    let bands = three_bands((alpha, beta));
+                    assert_eq!(crowd::covered(&board.0, &bands, 100, &minimums, 7), expected);
+                }
             }
         }
     }
@@ -153,8 +170,8 @@ fn equal_minimums() {
     }
 }
 
-/// On larger boards at random: a cover marks what a peel from all ones leaves, and what is left under a list of limits in
-/// which those who are off or out have one that nobody meets.
+/// On larger boards at random: an own cover marks what a peel from all ones leaves, and what is left under a list of limits
+/// in which those who are off or out have one that nobody meets. A crowd cover for the same limits gives the same.
 #[test]
 fn covers_beside_peels_from_all_ones() {
     let mut state = 27u32;
@@ -176,6 +193,7 @@ fn covers_beside_peels_from_all_ones() {
         let limits = (below(4) as u16, below(n as u32 + 2) as u16);
         let minimums: Vec<u16> = (0..m).map(|_| if below(2) == 0 { 0 } else { below(n as u32 + 1) as u16 }).collect();
         let (counts, marks) = covered(&board, &minimums, limits, 7);
+        assert_eq!(crowd::covered(&board, &three_bands(limits), 99, &minimums, 7), (counts, marks.clone()));
         let mut left = vec![1; head.nodes()];
         let peeled = board.peel_with(&minimums, &mut left, limits, 65_535);
         assert_eq!((counts, marks), shown(head, &left, 7));
