@@ -5,8 +5,8 @@ mod crowd;
 mod own;
 
 pub use covers::{CoverTotals, LimitList, PairTable};
-pub use crowd::CrowdTotals;
-pub use own::OwnTotals;
+pub use crowd::{band_limits, CrowdTotals};
+pub use own::{MinimumTotals, OwnTotals};
 
 use crate::numbers::Numbers;
 use covers::CoverRegions;
@@ -269,11 +269,12 @@ impl Totals {
         }
     }
 
-    /// A cover that was not refused, and a query for its limits, on a board whose index is its own, from equal marks.
-    pub fn same_as_queried(&mut self, call: &str, covered: (Counts, &[u16]), queried: (Counts, &[u16])) {
-        self.same(&format!("{call}, and a query for its limits then"), covered.0, queried.0);
-        if covered.1 != queried.1 {
-            self.differ(&format!("{call}: the marks are not those of a query for its limits"));
+    /// A cover, and another call for its limits, from equal marks: a query on a board whose index is its own, or an own
+    /// cover.
+    pub fn same_as(&mut self, call: &str, other: &str, covered: (Counts, &[u16]), found: (Counts, &[u16])) {
+        self.same(&format!("{call}, and {other} for its limits then"), covered.0, found.0);
+        if covered.1 != found.1 {
+            self.differ(&format!("{call}: the marks are not those of {other} for its limits"));
         }
     }
 
@@ -366,9 +367,9 @@ impl<B: Library> Compared<B> {
         totals.same_words("peel", "presence", presence, &words.presence);
         totals.same_words("peel", "minimums", read, minimums);
         totals.same_words("peel", "marks", left, marks);
+        totals.own.minimums.count(head, minimums, beta, expected.code);
         if expected.code == 0 {
             totals.accepted(head, alpha, beta, &words.presence);
-            totals.own.count(head, minimums, beta);
         }
         self.check_filled();
         expected
@@ -467,12 +468,12 @@ mod tests {
 
     /// Another number, another count and another mark are each a difference.
     #[test]
-    fn a_cover_that_is_not_what_a_query_gives_is_a_difference() {
+    fn a_cover_that_is_not_what_another_call_gives_is_a_difference() {
         let (counts, marks) = (Counts { code: 0, operators: 2, rides: 1 }, [1, 0, 1, 1, 7]);
         let differences = |change: fn(&mut Counts, &mut [u16])| {
-            let (mut totals, mut queried_counts, mut queried) = (Totals::default(), counts, marks);
-            change(&mut queried_counts, &mut queried);
-            totals.same_as_queried("cover", (counts, &marks), (queried_counts, &queried));
+            let (mut totals, mut other_counts, mut other) = (Totals::default(), counts, marks);
+            change(&mut other_counts, &mut other);
+            totals.same_as("cover", "a query", (counts, &marks), (other_counts, &other));
             totals.differences
         };
         assert_eq!(differences(|_, _| {}), 0);

@@ -1,7 +1,7 @@
 //! The comparison itself is tried: between the reference and itself it finds nothing, and it finds each of these faults,
 //! or the fault stops the program.
 
-use crate::compared::{Compared, CoverTotals, CrowdTotals, OwnTotals, Totals};
+use crate::compared::{Compared, CoverTotals, CrowdTotals, MinimumTotals, OwnTotals, Totals};
 use crate::faulty::Faulty;
 use crate::numbers::Numbers;
 use crate::sequences::{covers, crowd, delivery, own, sequence, Size};
@@ -50,7 +50,7 @@ pub enum Fault {
     QueryZeroMarksAbsent,
     /// Too short words of presence are not refused.
     QueryShortPresence,
-    /// Rides are asked for the minimums of the last peel or own cover.
+    /// Rides are asked for the minimums of the last peel or cover.
     QueryUsesMinimums,
     PeelStep,
     PeelMark,
@@ -198,8 +198,12 @@ pub enum Fault {
     CrowdBeforeBoard(u16),
     /// A crowd cover goes wrong otherwise.
     CrowdCover(WrongCover),
-    /// A crowd cover has the minimums of the last peel or own cover.
-    CrowdUsesMinimums,
+    /// The minimums of a crowd cover are read or tested otherwise.
+    CrowdMinimums(WrongMinimums),
+    /// A crowd cover has the minimums of the peel or cover before it.
+    CrowdOtherMinimums,
+    /// A table that is refused is read as its first band where every ride has a minimum.
+    CrowdTableUnread,
     /// The minimums of an own cover are read or tested otherwise.
     OwnMinimums(WrongMinimums),
     /// An own cover goes wrong otherwise.
@@ -223,8 +227,8 @@ impl Fault {
         match self {
             Fault::PairCover(_) | Fault::TableCover(_) | Fault::Tables(_) => COVERS,
             Fault::LookUp(_) | Fault::CrowdLookUp(_) | Fault::CrowdBeforeBoard(_) | Fault::CrowdCover(_) => CROWD,
-            Fault::PeelMinimums(_) | Fault::OwnMinimums(_) | Fault::OwnCover(_) => OWN,
-            Fault::QueryUsesMinimums | Fault::CrowdUsesMinimums => OWN,
+            Fault::CrowdMinimums(_) | Fault::CrowdOtherMinimums | Fault::CrowdTableUnread => CROWD,
+            Fault::PeelMinimums(_) | Fault::OwnMinimums(_) | Fault::OwnCover(_) | Fault::QueryUsesMinimums => OWN,
             _ => SEQUENCE_AND_DELIVERY,
         }
     }
@@ -346,6 +350,8 @@ pub enum WrongBands {
     LimitsOfNext,
     /// The limits of the first band are given.
     LimitsOfFirst,
+    /// The first band's beta is given, with the alpha of the band.
+    BetaOfFirst,
     /// Alpha is for rides and beta for operators.
     LimitsExchanged,
     /// The last guest count of a band is the next one's.
@@ -391,7 +397,7 @@ pub enum WrongCover {
     Writes(usize),
 }
 
-/// How the minimums of a peel or an own cover are read or tested otherwise.
+/// How the minimums of a peel or a cover are read or tested otherwise.
 #[derive(Clone, Copy, Debug, PartialEq, Eq)]
 pub enum WrongMinimums {
     /// They are read and tested as they should be.
@@ -465,6 +471,7 @@ pub enum Reading {
     LowByte,
 }
 
+/// Those that are put into one call.
 const FAULTS: &[Fault] = &[
     Fault::BuildRefuses,
     Fault::BuildIndex,
@@ -510,33 +517,7 @@ const FAULTS: &[Fault] = &[
     Fault::PeelRidesOutFirst,
     Fault::PeelAbsentMarkUnread,
     Fault::PeelShortPresence,
-    Fault::PeelMinimums(WrongMinimums::Unread),
-    Fault::PeelMinimums(WrongMinimums::SmallerUnused),
-    Fault::PeelMinimums(WrongMinimums::LargerUnused),
-    Fault::PeelMinimums(WrongMinimums::SmallerOfBoth),
-    Fault::PeelMinimums(WrongMinimums::Added),
-    Fault::PeelMinimums(WrongMinimums::ZeroIsLimit),
-    Fault::PeelMinimums(WrongMinimums::NoneUnderBetaZero),
-    Fault::PeelMinimums(WrongMinimums::LowByte),
-    Fault::PeelMinimums(WrongMinimums::MostIsNone),
-    Fault::PeelMinimums(WrongMinimums::TooManyIsNone),
-    Fault::PeelMinimums(WrongMinimums::NotEnough),
-    Fault::PeelMinimums(WrongMinimums::NextPlace),
-    Fault::PeelMinimums(WrongMinimums::PlaceBefore),
-    Fault::PeelMinimums(WrongMinimums::PlaceAsMarks),
-    Fault::PeelMinimums(WrongMinimums::OfFirst),
-    Fault::PeelMinimums(WrongMinimums::LastUnread),
-    Fault::PeelMinimums(WrongMinimums::OfOperators),
-    Fault::PeelMinimums(WrongMinimums::OfOperatorsToo),
-    Fault::PeelMinimums(WrongMinimums::OutIsIn),
-    Fault::PeelMinimums(WrongMinimums::ShortAccepted),
-    Fault::PeelMinimums(WrongMinimums::ShortFirst),
-    Fault::PeelMinimums(WrongMinimums::ShortAfter(4)),
-    Fault::PeelMinimums(WrongMinimums::ShortAfter(5)),
     Fault::PeelMinimums(WrongMinimums::ShortAfter(12)),
-    Fault::PeelMinimums(WrongMinimums::LongRefused),
-    Fault::PeelMinimums(WrongMinimums::NodesNeeded),
-    Fault::PeelMinimums(WrongMinimums::LargeRefused(3)),
     Fault::PeelMinimums(WrongMinimums::LargeRefused(11)),
     Fault::MessageStamp,
     Fault::MessageDiffer,
@@ -671,127 +652,112 @@ const FAULTS: &[Fault] = &[
     Fault::Tables(WrongTables::NotHereCounts),
     Fault::Tables(WrongTables::DegreesOfAll),
     Fault::Tables(WrongTables::WritesBeside),
-    Fault::LookUp(WrongBands::TouchAccepted),
-    Fault::LookUp(WrongBands::InsideAccepted),
-    Fault::LookUp(WrongBands::GapLowAccepted),
-    Fault::LookUp(WrongBands::GapHighAccepted),
-    Fault::LookUp(WrongBands::GapInsideAccepted),
-    Fault::LookUp(WrongBands::GapOfOneAccepted),
-    Fault::LookUp(WrongBands::WidthsEnough),
-    Fault::LookUp(WrongBands::GapFirst),
-    Fault::LookUp(WrongBands::OverlapFirst),
-    Fault::LookUp(WrongBands::PastCountRead),
-    Fault::LookUp(WrongBands::PastCountCloses),
-    Fault::LookUp(WrongBands::PastCountShares),
-    Fault::LookUp(WrongBands::NineIsEight),
-    Fault::LookUp(WrongBands::ZeroIsOne),
-    Fault::LookUp(WrongBands::CountLowByte),
-    Fault::LookUp(WrongBands::EndsExchanged),
-    Fault::LookUp(WrongBands::EmptySkipped),
-    Fault::LookUp(WrongBands::BandAboveAccepted),
-    Fault::LookUp(WrongBands::MostRefused),
-    Fault::LookUp(WrongBands::AboveAccepted),
-    Fault::LookUp(WrongBands::AboveIsGap),
-    Fault::LookUp(WrongBands::LimitsOfNext),
-    Fault::LookUp(WrongBands::LimitsOfFirst),
-    Fault::LookUp(WrongBands::LimitsExchanged),
-    Fault::LookUp(WrongBands::LastExcluded),
     Fault::LookUp(WrongBands::LimitsThoughRefused),
-    Fault::CrowdLookUp(WrongBands::TouchAccepted),
-    Fault::CrowdLookUp(WrongBands::InsideAccepted),
-    Fault::CrowdLookUp(WrongBands::GapLowAccepted),
-    Fault::CrowdLookUp(WrongBands::GapHighAccepted),
-    Fault::CrowdLookUp(WrongBands::GapInsideAccepted),
-    Fault::CrowdLookUp(WrongBands::GapOfOneAccepted),
-    Fault::CrowdLookUp(WrongBands::WidthsEnough),
-    Fault::CrowdLookUp(WrongBands::GapFirst),
-    Fault::CrowdLookUp(WrongBands::OverlapFirst),
-    Fault::CrowdLookUp(WrongBands::PastCountRead),
-    Fault::CrowdLookUp(WrongBands::PastCountCloses),
-    Fault::CrowdLookUp(WrongBands::PastCountShares),
-    Fault::CrowdLookUp(WrongBands::NineIsEight),
-    Fault::CrowdLookUp(WrongBands::ZeroIsOne),
-    Fault::CrowdLookUp(WrongBands::CountLowByte),
-    Fault::CrowdLookUp(WrongBands::EndsExchanged),
-    Fault::CrowdLookUp(WrongBands::EmptySkipped),
-    Fault::CrowdLookUp(WrongBands::BandAboveAccepted),
-    Fault::CrowdLookUp(WrongBands::MostRefused),
-    Fault::CrowdLookUp(WrongBands::AboveAccepted),
-    Fault::CrowdLookUp(WrongBands::AboveIsGap),
-    Fault::CrowdLookUp(WrongBands::LimitsOfNext),
-    Fault::CrowdLookUp(WrongBands::LimitsOfFirst),
-    Fault::CrowdLookUp(WrongBands::LimitsExchanged),
-    Fault::CrowdLookUp(WrongBands::LastExcluded),
     Fault::CrowdBeforeBoard(16),
     Fault::CrowdBeforeBoard(17),
     Fault::CrowdBeforeBoard(18),
-    Fault::CrowdCover(WrongCover::Twelve),
-    Fault::CrowdCover(WrongCover::ZeroRefused),
-    Fault::CrowdCover(WrongCover::Short(OPERATORS)),
-    Fault::CrowdCover(WrongCover::Short(RIDES)),
-    Fault::CrowdCover(WrongCover::Short(PRESENCE)),
-    Fault::CrowdCover(WrongCover::ShortMarks),
-    Fault::CrowdCover(WrongCover::Presence(Reading::OffIsOn)),
-    Fault::CrowdCover(WrongCover::Presence(Reading::OutIsIn)),
-    Fault::CrowdCover(WrongCover::Presence(Reading::NotZero)),
-    Fault::CrowdCover(WrongCover::Presence(Reading::LowByte)),
-    Fault::CrowdCover(WrongCover::ZeroKeepsAbsent),
-    Fault::CrowdCover(WrongCover::DegreesAlone),
-    Fault::CrowdCover(WrongCover::SweptOnce),
-    Fault::CrowdCover(WrongCover::MarksAsCame),
-    Fault::CrowdCover(WrongCover::MarksPastNodes),
-    Fault::CrowdCover(WrongCover::MarksThoughRefused),
-    Fault::CrowdCover(WrongCover::CountsThoughRefused),
-    Fault::CrowdCover(WrongCover::CountsExchanged),
-    Fault::CrowdCover(WrongCover::WritesBeside),
-    Fault::CrowdUsesMinimums,
-    Fault::OwnMinimums(WrongMinimums::Unread),
-    Fault::OwnMinimums(WrongMinimums::SmallerUnused),
-    Fault::OwnMinimums(WrongMinimums::LargerUnused),
-    Fault::OwnMinimums(WrongMinimums::SmallerOfBoth),
-    Fault::OwnMinimums(WrongMinimums::Added),
-    Fault::OwnMinimums(WrongMinimums::ZeroIsLimit),
-    Fault::OwnMinimums(WrongMinimums::NoneUnderBetaZero),
-    Fault::OwnMinimums(WrongMinimums::LowByte),
-    Fault::OwnMinimums(WrongMinimums::MostIsNone),
-    Fault::OwnMinimums(WrongMinimums::TooManyIsNone),
-    Fault::OwnMinimums(WrongMinimums::NotEnough),
-    Fault::OwnMinimums(WrongMinimums::NextPlace),
-    Fault::OwnMinimums(WrongMinimums::PlaceBefore),
-    Fault::OwnMinimums(WrongMinimums::PlaceAsMarks),
-    Fault::OwnMinimums(WrongMinimums::OfFirst),
-    Fault::OwnMinimums(WrongMinimums::LastUnread),
-    Fault::OwnMinimums(WrongMinimums::OfOperators),
-    Fault::OwnMinimums(WrongMinimums::OfOperatorsToo),
-    Fault::OwnMinimums(WrongMinimums::OutIsIn),
-    Fault::OwnMinimums(WrongMinimums::ShortAccepted),
-    Fault::OwnMinimums(WrongMinimums::ShortFirst),
-    Fault::OwnMinimums(WrongMinimums::ShortAfter(4)),
-    Fault::OwnMinimums(WrongMinimums::ShortAfter(5)),
-    Fault::OwnMinimums(WrongMinimums::LongRefused),
-    Fault::OwnMinimums(WrongMinimums::NodesNeeded),
-    Fault::OwnMinimums(WrongMinimums::LargeRefused(3)),
+    Fault::CrowdMinimums(WrongMinimums::ShortAfter(16)),
+    Fault::CrowdMinimums(WrongMinimums::ShortAfter(17)),
+    Fault::CrowdMinimums(WrongMinimums::ShortAfter(18)),
+    Fault::CrowdMinimums(WrongMinimums::LargeRefused(16)),
+    Fault::CrowdOtherMinimums,
+    Fault::CrowdTableUnread,
     Fault::OwnMinimums(WrongMinimums::LargeRefused(16)),
-    Fault::OwnCover(WrongCover::Twelve),
-    Fault::OwnCover(WrongCover::ZeroRefused),
-    Fault::OwnCover(WrongCover::Short(OPERATORS)),
-    Fault::OwnCover(WrongCover::Short(RIDES)),
-    Fault::OwnCover(WrongCover::Short(PRESENCE)),
-    Fault::OwnCover(WrongCover::ShortMarks),
-    Fault::OwnCover(WrongCover::Presence(Reading::OffIsOn)),
-    Fault::OwnCover(WrongCover::Presence(Reading::OutIsIn)),
-    Fault::OwnCover(WrongCover::Presence(Reading::NotZero)),
-    Fault::OwnCover(WrongCover::Presence(Reading::LowByte)),
-    Fault::OwnCover(WrongCover::ZeroKeepsAbsent),
-    Fault::OwnCover(WrongCover::DegreesAlone),
-    Fault::OwnCover(WrongCover::SweptOnce),
-    Fault::OwnCover(WrongCover::MarksAsCame),
-    Fault::OwnCover(WrongCover::MarksPastNodes),
-    Fault::OwnCover(WrongCover::MarksThoughRefused),
-    Fault::OwnCover(WrongCover::CountsThoughRefused),
-    Fault::OwnCover(WrongCover::CountsExchanged),
-    Fault::OwnCover(WrongCover::WritesBeside),
 ];
+
+/// Each is put into a peel, an own cover and a crowd cover.
+const WRONG_MINIMUMS: &[WrongMinimums] = &[
+    WrongMinimums::Unread,
+    WrongMinimums::SmallerUnused,
+    WrongMinimums::LargerUnused,
+    WrongMinimums::SmallerOfBoth,
+    WrongMinimums::Added,
+    WrongMinimums::ZeroIsLimit,
+    WrongMinimums::NoneUnderBetaZero,
+    WrongMinimums::LowByte,
+    WrongMinimums::MostIsNone,
+    WrongMinimums::TooManyIsNone,
+    WrongMinimums::NotEnough,
+    WrongMinimums::NextPlace,
+    WrongMinimums::PlaceBefore,
+    WrongMinimums::PlaceAsMarks,
+    WrongMinimums::OfFirst,
+    WrongMinimums::LastUnread,
+    WrongMinimums::OfOperators,
+    WrongMinimums::OfOperatorsToo,
+    WrongMinimums::OutIsIn,
+    WrongMinimums::ShortAccepted,
+    WrongMinimums::ShortFirst,
+    WrongMinimums::ShortAfter(4),
+    WrongMinimums::ShortAfter(5),
+    WrongMinimums::LongRefused,
+    WrongMinimums::NodesNeeded,
+    WrongMinimums::LargeRefused(3),
+];
+
+/// Each is put into a look-up and a crowd cover.
+const WRONG_BANDS: &[WrongBands] = &[
+    WrongBands::TouchAccepted,
+    WrongBands::InsideAccepted,
+    WrongBands::GapLowAccepted,
+    WrongBands::GapHighAccepted,
+    WrongBands::GapInsideAccepted,
+    WrongBands::GapOfOneAccepted,
+    WrongBands::WidthsEnough,
+    WrongBands::GapFirst,
+    WrongBands::OverlapFirst,
+    WrongBands::PastCountRead,
+    WrongBands::PastCountCloses,
+    WrongBands::PastCountShares,
+    WrongBands::NineIsEight,
+    WrongBands::ZeroIsOne,
+    WrongBands::CountLowByte,
+    WrongBands::EndsExchanged,
+    WrongBands::EmptySkipped,
+    WrongBands::BandAboveAccepted,
+    WrongBands::MostRefused,
+    WrongBands::AboveAccepted,
+    WrongBands::AboveIsGap,
+    WrongBands::LimitsOfNext,
+    WrongBands::LimitsOfFirst,
+    WrongBands::BetaOfFirst,
+    WrongBands::LimitsExchanged,
+    WrongBands::LastExcluded,
+];
+
+/// Each is put into an own cover and a crowd cover.
+const WRONG_COVERS: &[WrongCover] = &[
+    WrongCover::Twelve,
+    WrongCover::ZeroRefused,
+    WrongCover::Short(OPERATORS),
+    WrongCover::Short(RIDES),
+    WrongCover::Short(PRESENCE),
+    WrongCover::ShortMarks,
+    WrongCover::Presence(Reading::OffIsOn),
+    WrongCover::Presence(Reading::OutIsIn),
+    WrongCover::Presence(Reading::NotZero),
+    WrongCover::Presence(Reading::LowByte),
+    WrongCover::ZeroKeepsAbsent,
+    WrongCover::DegreesAlone,
+    WrongCover::SweptOnce,
+    WrongCover::MarksAsCame,
+    WrongCover::MarksPastNodes,
+    WrongCover::MarksThoughRefused,
+    WrongCover::CountsThoughRefused,
+    WrongCover::CountsExchanged,
+    WrongCover::WritesBeside,
+];
+
+/// All that are found.
+fn faults() -> Vec<Fault> {
+    fn each<T: Copy>(calls: &[fn(T) -> Fault], wrong: &[T]) -> Vec<Fault> {
+        calls.iter().flat_map(|call| wrong.iter().map(|wrong| call(*wrong))).collect()
+    }
+    let minimums = each(&[Fault::PeelMinimums, Fault::OwnMinimums, Fault::CrowdMinimums], WRONG_MINIMUMS);
+    let bands = each(&[Fault::LookUp, Fault::CrowdLookUp], WRONG_BANDS);
+    let covers = each(&[Fault::OwnCover, Fault::CrowdCover], WRONG_COVERS);
+    [FAULTS.to_vec(), minimums, bands, covers].concat()
+}
 
 /// Faults that stop the program.
 const STOPS: &[Fault] = &[
@@ -824,6 +790,8 @@ const STOPS: &[Fault] = &[
     Fault::PeelMinimums(WrongMinimums::ReadPast),
     Fault::OwnMinimums(WrongMinimums::Written),
     Fault::OwnMinimums(WrongMinimums::ReadPast),
+    Fault::CrowdMinimums(WrongMinimums::Written),
+    Fault::CrowdMinimums(WrongMinimums::ReadPast),
     Fault::OwnCover(WrongCover::WritesPast),
     Fault::OwnCover(WrongCover::Writes(OPERATORS)),
     Fault::OwnCover(WrongCover::Writes(RIDES)),
@@ -845,7 +813,8 @@ fn found(fault: Fault, round: Round, enough: fn(&Totals) -> bool) -> Totals {
 
 /// Among the calls are previews that give each of 0 to 10, 14 and 15, whose message is then sent, and whose spare
 /// memory is then the board; messages of all six kinds are taken; queries and peels are accepted with somebody off or
-/// out; a query is made for the limits of a crowd cover and of an own cover, and a peel after an own cover.
+/// out; a query is made for the limits of a crowd cover and of an own cover, an own cover after a crowd cover, and a peel
+/// after an own cover.
 #[test]
 fn the_reference_does_not_differ_from_itself() {
     let totals = found(Fault::None, SEQUENCE_AND_DELIVERY, |totals| totals.deliveries == 200);
@@ -853,8 +822,9 @@ fn the_reference_does_not_differ_from_itself() {
     assert!(totals.preview_numbers.keys().copied().eq((0..=10).chain([14, 15])), "{:?}", totals.preview_numbers);
     assert!(totals.sent > 0 && totals.exchanged > 0, "{} {}", totals.sent, totals.exchanged);
     assert!(totals.taken_kinds.keys().copied().eq(1..=6), "{:?}", totals.taken_kinds);
-    assert!(totals.absent > 0 && totals.crowd.queried > 0, "{} {}", totals.absent, totals.crowd.queried);
-    assert!(totals.own.queried > 0 && totals.own.peeled > 0, "{} {}", totals.own.queried, totals.own.peeled);
+    let (crowd, own) = (&totals.crowd, &totals.own);
+    let others = [totals.absent, crowd.queried, crowd.own_covered, own.queried, own.peeled];
+    assert!(others.iter().all(|count| *count > 0), "{others:?}");
 }
 
 /// Some nodes are dropped and some are kept.
@@ -867,39 +837,48 @@ fn covers_of_the_reference_do_not_differ() {
     assert!(dropped > 1000 && kept > 1000, "{dropped} {kept}");
 }
 
+/// There are lists of minimums of all sorts.
+#[track_caller]
+fn are_all_sorts(minimums: &MinimumTotals) {
+    let MinimumTotals { without, some, all, below, equal, above, longer, short } = minimums;
+    let lists = [without, some, all, below, equal, above, longer, short];
+    assert!(lists.iter().all(|count| **count > 100), "{minimums:?}");
+}
+
 /// Each number that a look-up and a crowd cover can give is given.
 #[test]
 fn look_ups_and_crowd_covers_of_the_reference_do_not_differ() {
     let totals = found(Fault::None, CROWD, |_| false);
     assert_eq!(totals.differences, 0);
-    let CrowdTotals { look_up_numbers, cover_numbers, .. } = totals.crowd;
+    let CrowdTotals { look_up_numbers, cover_numbers, minimums, .. } = totals.crowd;
     assert!(look_up_numbers.keys().copied().eq([0, 16, 17, 18]), "{look_up_numbers:?}");
     assert!(cover_numbers.keys().copied().eq((0..=5).chain(16..=18)), "{cover_numbers:?}");
+    are_all_sorts(&minimums);
 }
 
-/// Each number that an own cover can give is given, and there are lists of minimums of all sorts.
+/// Each number that an own cover can give is given.
 #[test]
 fn own_covers_of_the_reference_do_not_differ() {
     let totals = found(Fault::None, OWN, |_| false);
     assert_eq!(totals.differences, 0);
-    let OwnTotals { numbers, without, some, all, below, above, longer, .. } = totals.own;
+    let OwnTotals { numbers, minimums, .. } = totals.own;
     assert!(numbers.keys().copied().eq(0..=5), "{numbers:?}");
-    let lists = [without, some, all, below, above, longer];
-    assert!(lists.iter().all(|count| *count > 100), "{lists:?}");
+    are_all_sorts(&minimums);
 }
 
-/// A peel and an own cover that are faulty in nothing but that they are found by another program.
+/// A peel and covers that are faulty in nothing but that they are found by another program.
 #[test]
 fn minimums_read_as_they_should_be_do_not_differ() {
-    for fault in [Fault::PeelMinimums(WrongMinimums::None), Fault::OwnMinimums(WrongMinimums::None)] {
-        assert_eq!(found(fault, OWN, |_| false).differences, 0, "{fault:?}");
+    for call in [Fault::PeelMinimums, Fault::OwnMinimums, Fault::CrowdMinimums] {
+        let fault = call(WrongMinimums::None);
+        assert_eq!(found(fault, fault.round(), |_| false).differences, 0, "{fault:?}");
     }
 }
 
 #[test]
 fn each_fault_is_found() {
-    for fault in FAULTS {
-        let totals = found(*fault, fault.round(), |totals| totals.differences > 0);
+    for fault in faults() {
+        let totals = found(fault, fault.round(), |totals| totals.differences > 0);
         assert!(totals.differences > 0, "{fault:?} is not found");
     }
 }

@@ -7,6 +7,7 @@ mod own;
 
 use crate::faults::{Fault, Reading};
 use crate::faults::{INDEX, OPERATORS, PRESENCE, PRESENCE_REVISIONS, PRESENCE_STAMPS, REVISIONS, RIDES, STAMPS};
+use crowd::Crowd;
 use differential::guarded::PAGE;
 use differential::Library;
 use found::Lent;
@@ -201,7 +202,7 @@ fn take(head: &mut Head, parts: &mut Slices, one: Message) -> Answer {
     answer
 }
 
-/// The reference with a fault, and the minimums of the last peel or own cover.
+/// The reference with a fault, and the minimums of the last peel or cover.
 pub struct Faulty(Fault, Vec<u16>);
 
 impl Faulty {
@@ -407,9 +408,12 @@ impl Board for Faulty {
         presence: &[u16],
         bands: Bands,
         guests: u16,
+        minimums: &[u16],
         marks: &mut [u16],
     ) -> Counts {
-        self.cover_for(Lent { head, operators, rides, presence }, &bands, guests, marks)
+        let others = std::mem::replace(&mut self.1, minimums.to_vec());
+        let lent = Lent { head, operators, rides, presence };
+        self.cover_for(lent, Crowd { table: &bands, guests, minimums }, &others, marks)
     }
 }
 

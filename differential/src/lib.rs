@@ -281,6 +281,7 @@ impl Board for Proved {
         presence: &[u16],
         bands: Bands,
         guests: u16,
+        minimums: &[u16],
         marks: &mut [u16],
     ) -> Counts {
         let counts = unsafe {
@@ -294,6 +295,8 @@ impl Board for Proved {
                 presence.len(),
                 bands_of(bands),
                 guests,
+                minimums.as_ptr(),
+                minimums.len(),
                 marks.as_mut_ptr(),
                 marks.len(),
             )

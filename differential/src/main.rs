@@ -24,8 +24,8 @@ fn print_totals(totals: &Totals) {
         totals.previews, totals.sent, totals.exchanged
     );
     println!(
-        "  look-up {}, crowd cover {}, a query for its limits then made {}",
-        totals.crowd.look_ups, totals.crowd.covers, totals.crowd.queried
+        "  look-up {}, crowd cover {}, an own cover for its limits then made {}, a query {}",
+        totals.crowd.look_ups, totals.crowd.covers, totals.crowd.own_covered, totals.crowd.queried
     );
     println!(
         "  own cover {}, a peel from all ones then made {}, a query for its limits then made {}",
@@ -38,14 +38,8 @@ fn print_totals(totals: &Totals) {
         totals.alpha_zero, totals.beta_zero, totals.both_zero
     );
     println!("  accepted queries, peels, own covers and crowd covers with somebody off or out {}", totals.absent);
-    println!(
-        "  accepted peels and own covers with minimums of no ride {}, of some {}, of all {}",
-        totals.own.without, totals.own.some, totals.own.all
-    );
-    println!(
-        "  with a minimum below β {}, with one above it {}, with words past the rides {}",
-        totals.own.below, totals.own.above, totals.own.longer
-    );
+    println!("  minimums of peels and own covers: {}", totals.own.minimums);
+    println!("  minimums of crowd covers: {}", totals.crowd.minimums);
     println!("  messages taken, by kind: {:?}", totals.taken_kinds);
     println!("  answers by number: {:?}", totals.numbers);
     println!("  answers of previews: {:?}", totals.preview_numbers);

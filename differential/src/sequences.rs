@@ -595,7 +595,7 @@ fn worked_out(built: &Lent, book: &Book) -> Lent {
 
 /// Demand 3 on the library itself: the same messages in three orders, one the reverse of another and one with repeats,
 /// leave the same board, the one that is worked out from the latest message of each pair, operator and ride. Its index is
-/// its own, so that crowd covers on it are those of queries, and so are own covers where all rides have one limit.
+/// its own, so that crowd covers and own covers on it are those of queries where all rides have one limit.
 pub fn delivery<B: Library>(compared: &mut Compared<B>, numbers: &mut Numbers, size: Size) {
     let (n, m) = size.numbers(numbers);
     let pairs = table(numbers, n, m);

@@ -1,9 +1,15 @@
 //! One look-up or crowd cover on the library and on the reference: the answers and every lent word are compared.
 
-use super::{end, Compared, Given, Lent, CROWD_COVER_NUMBERS, CROWD_LIMITS_NUMBERS};
+use super::{end, Compared, Given, Lent, MinimumTotals, CROWD_COVER_NUMBERS, CROWD_LIMITS_NUMBERS};
 use differential::Library;
 use reference::crowd::{crowd_cover, crowd_limits, Bands, CrowdLimits};
-use reference::Counts;
+use reference::{Counts, Parts};
+
+/// The limits of the first band that a guest count falls in, whether the table is valid or not; 0 where there is none.
+pub fn band_limits(table: &Bands, guests: u16) -> (u16, u16) {
+    let mut bands = table.bands.iter().take(table.count as usize);
+    bands.find(|band| (band.first..=band.last).contains(&guests)).map_or((0, 0), |band| (band.alpha, band.beta))
+}
 
 /// Look-ups and crowd covers that were compared so far.
 #[derive(Default)]
@@ -12,8 +18,11 @@ pub struct CrowdTotals {
     pub covers: u64,
     pub look_up_numbers: Given,
     pub cover_numbers: Given,
+    pub minimums: MinimumTotals,
     /// Crowd covers that a query for the same limits was made after.
     pub queried: u64,
+    /// Crowd covers that an own cover for the same limits and minimums was made after.
+    pub own_covered: u64,
 }
 
 impl CrowdTotals {
@@ -35,15 +44,24 @@ impl<B: Library> Compared<B> {
         expected
     }
 
-    pub fn crowd_cover(&mut self, lent: &Lent, table: &Bands, guests: u16, marks: &mut [u16]) -> Counts {
+    pub fn crowd_cover(
+        &mut self,
+        lent: &Lent,
+        table: &Bands,
+        guests: u16,
+        minimums: &[u16],
+        marks: &mut [u16],
+    ) -> Counts {
         let (before, head, words) = (marks.to_vec(), lent.head, &lent.parts);
-        let expected = crowd_cover(head, &words.operators, &words.rides, &words.presence, table, guests, marks);
+        let Parts { operators, rides, presence, .. } = words;
+        let expected = crowd_cover(head, operators, rides, presence, table, guests, minimums, marks);
         let Compared { library, regions, ends, totals, .. } = self;
         let operators = regions.parts.operators.lend(&words.operators, end(ends));
         let rides = regions.parts.rides.lend(&words.rides, end(ends));
         let presence = regions.parts.presence.lend(&words.presence, end(ends));
+        let read = regions.minimums.lend(minimums, end(ends));
         let left = regions.marks.lend_mut(&before, end(ends));
-        let found = library.crowd_cover(head, operators, rides, presence, *table, guests, left);
+        let found = library.crowd_cover(head, operators, rides, presence, *table, guests, read, left);
         totals.crowd.covers += 1;
         totals.number("crowd cover", CROWD_COVER_NUMBERS, head, found.code);
         *totals.crowd.cover_numbers.entry(found.code).or_default() += 1;
@@ -51,11 +69,12 @@ impl<B: Library> Compared<B> {
         totals.same_words("crowd cover", "operators", operators, &words.operators);
         totals.same_words("crowd cover", "rides", rides, &words.rides);
         totals.same_words("crowd cover", "presence", presence, &words.presence);
+        totals.same_words("crowd cover", "minimums", read, minimums);
         totals.same_words("crowd cover", "marks", left, marks);
+        let (alpha, beta) = band_limits(table, guests);
+        totals.crowd.minimums.count(head, minimums, beta, expected.code);
         if expected.code == 0 {
-            let mut bands = table.bands.iter().take(table.count as usize);
-            let band = bands.find(|band| (band.first..=band.last).contains(&guests)).expect("a valid table");
-            totals.accepted(head, band.alpha, band.beta, &words.presence);
+            totals.accepted(head, alpha, beta, &words.presence);
         }
         self.check_filled();
         expected

@@ -1,34 +1,48 @@
-//! One own cover on the library and on the reference: the answers and every lent word are compared. Minimums of own covers
-//! and peels.
+//! One own cover on the library and on the reference: the answers and every lent word are compared. Minimums of peels and
+//! covers.
 
 use super::{end, Compared, Given, Lent, Totals, OWN_COVER_NUMBERS};
 use differential::Library;
 use reference::{own_cover, Counts, Head, Peeled};
+use std::fmt::{Display, Formatter};
 
-/// Own covers that were compared so far, and the minimums of accepted own covers and peels.
+/// Own covers that were compared so far, and the minimums of own covers and peels.
 #[derive(Default)]
 pub struct OwnTotals {
     pub covers: u64,
     pub numbers: Given,
+    pub minimums: MinimumTotals,
     /// Own covers that a query for the same limits was made after.
     pub queried: u64,
     /// Own covers that a peel from all ones was made after.
     pub peeled: u64,
+}
+
+/// Lists of minimums of calls, all but the last of accepted ones.
+#[derive(Debug, Default, PartialEq, Eq)]
+pub struct MinimumTotals {
     /// Lists with which no ride has a minimum of its own, some rides have one, and all rides.
     pub without: u64,
     pub some: u64,
     pub all: u64,
-    /// Lists with a minimum below beta, and with one above it.
+    /// Lists with a minimum below beta, with one equal to it, and with one above it.
     pub below: u64,
+    pub equal: u64,
     pub above: u64,
     /// Lists that are longer than needed.
     pub longer: u64,
+    /// Lists that are too short, of calls that got 3.
+    pub short: u64,
 }
 
-impl OwnTotals {
-    /// Counts the minimums of an accepted own cover or peel.
-    pub fn count(&mut self, head: Head, minimums: &[u16], beta: u16) {
+impl MinimumTotals {
+    /// Counts the minimums of a call that got a number.
+    pub fn count(&mut self, head: Head, minimums: &[u16], beta: u16, code: u16) {
         let rides = head.rides as usize;
+        self.short += (code == 3 && minimums.len() < rides) as u64;
+        if code != 0 {
+            return;
+        }
         let own = || minimums[..rides].iter().filter(|minimum| **minimum != 0);
         match own().count() {
             0 => self.without += 1,
@@ -36,8 +50,18 @@ impl OwnTotals {
             _ => self.all += 1,
         }
         self.below += own().any(|minimum| *minimum < beta) as u64;
+        self.equal += own().any(|minimum| *minimum == beta) as u64;
         self.above += own().any(|minimum| *minimum > beta) as u64;
         self.longer += (minimums.len() > rides) as u64;
+    }
+}
+
+impl Display for MinimumTotals {
+    fn fmt(&self, f: &mut Formatter) -> std::fmt::Result {
+        let MinimumTotals { without, some, all, below, equal, above, longer, short } = self;
+        write!(f, "accepted of no ride {without}, of some {some}, of all {all}, ")?;
+        write!(f, "with one below β {below}, equal to it {equal}, above it {above}, ")?;
+        write!(f, "with words past the rides {longer}; refused as too short {short}")
     }
 }
 
@@ -74,9 +98,9 @@ impl<B: Library> Compared<B> {
         totals.same_words("own cover", "presence", presence, &words.presence);
         totals.same_words("own cover", "minimums", read, minimums);
         totals.same_words("own cover", "marks", left, marks);
+        totals.own.minimums.count(head, minimums, beta, expected.code);
         if expected.code == 0 {
             totals.accepted(head, alpha, beta, &words.presence);
-            totals.own.count(head, minimums, beta);
         }
         self.check_filled();
         expected
@@ -89,20 +113,24 @@ mod tests {
 
     const HEAD: Head = Head { operators: 2, rides: 3, pairs: 0 };
 
-    /// Each list is counted once as one of no, some or all rides; words past the rides are not looked at.
+    /// Each list of an accepted call is counted once as one of no, some or all rides; words past the rides are not looked at.
     #[test]
     fn minimums_are_counted() {
-        let counted = |minimums: &[u16], beta: u16| {
-            let mut totals = OwnTotals::default();
-            totals.count(HEAD, minimums, beta);
-            [totals.without, totals.some, totals.all, totals.below, totals.above, totals.longer]
+        let counted = |minimums: &[u16], beta: u16, code: u16| {
+            let mut totals = MinimumTotals::default();
+            totals.count(HEAD, minimums, beta, code);
+            totals
         };
-        assert_eq!(counted(&[0, 0, 0], 2), [1, 0, 0, 0, 0, 0]);
-        assert_eq!(counted(&[0, 0, 0, 1, 3], 2), [1, 0, 0, 0, 0, 1]);
-        assert_eq!(counted(&[0, 1, 0], 2), [0, 1, 0, 1, 0, 0]);
-        assert_eq!(counted(&[0, 1, 3], 2), [0, 1, 0, 1, 1, 0]);
-        assert_eq!(counted(&[2, 2, 2], 2), [0, 0, 1, 0, 0, 0]);
-        assert_eq!(counted(&[2, 2, 3, 0], 0), [0, 0, 1, 0, 1, 1]);
+        let none = MinimumTotals::default;
+        assert_eq!(counted(&[0, 0, 0], 2, 0), MinimumTotals { without: 1, ..none() });
+        assert_eq!(counted(&[0, 0, 0, 1, 2, 3], 2, 0), MinimumTotals { without: 1, longer: 1, ..none() });
+        assert_eq!(counted(&[0, 1, 0], 2, 0), MinimumTotals { some: 1, below: 1, ..none() });
+        assert_eq!(counted(&[0, 1, 3], 2, 0), MinimumTotals { some: 1, below: 1, above: 1, ..none() });
+        assert_eq!(counted(&[2, 2, 2], 2, 0), MinimumTotals { all: 1, equal: 1, ..none() });
+        assert_eq!(counted(&[2, 2, 3, 0], 0, 0), MinimumTotals { all: 1, above: 1, longer: 1, ..none() });
+        assert_eq!(counted(&[1, 2], 2, 3), MinimumTotals { short: 1, ..none() });
+        assert_eq!(counted(&[1, 2], 2, 1), none());
+        assert_eq!(counted(&[1, 2, 3], 2, 3), none());
     }
 
     /// Another number, unsettled, another count of steps and another mark are each a difference; a mark past the nodes is

@@ -1,10 +1,11 @@
 //! Look-ups and crowd covers, with a fault.
 
 use super::found::{refused, Lent};
+use super::own::Asked;
 use super::Faulty;
-use crate::faults::{Fault, WrongBands};
+use crate::faults::{Fault, WrongBands, WrongMinimums};
 use reference::crowd::{crowd_cover, crowd_limits, Band, Bands, CrowdLimits, BANDS_MOST, GUESTS_MOST};
-use reference::{own_cover, Counts};
+use reference::Counts;
 
 /// The bands of a table that are read.
 fn read(table: &Bands) -> &[Band] {
@@ -141,6 +142,7 @@ fn looked_up(wrong: WrongBands, table: &Bands, guests: u16) -> CrowdLimits {
         (WrongBands::LimitsThoughRefused, 16.., _) => CrowdLimits { code, ..of(table.bands[0]) },
         (WrongBands::LimitsOfNext, 0, Some(place)) => of(bands[(place + 1) % bands.len()]),
         (WrongBands::LimitsOfFirst, 0, _) => of(bands[0]),
+        (WrongBands::BetaOfFirst, 0, _) => CrowdLimits { beta: bands[0].beta, ..limits },
         (WrongBands::LimitsExchanged, 0, _) => CrowdLimits { code, alpha: limits.beta, beta: limits.alpha },
         (WrongBands::LastExcluded, 0, Some(place)) if bands[place].last == guests => {
             bands.iter().find(|band| falls_in(band, guests + 1)).map_or(limits, |next| of(*next))
@@ -156,17 +158,26 @@ fn whole(limits: CrowdLimits) -> Bands {
     table
 }
 
-impl Lent<'_> {
+/// What a crowd cover is asked for, and the minimums that it is lent.
+#[derive(Clone, Copy)]
+pub struct Crowd<'a> {
+    pub table: &'a Bands,
+    pub guests: u16,
+    pub minimums: &'a [u16],
+}
+
+impl Crowd<'_> {
     /// The reference's crowd cover.
-    fn crowd_cover(self, table: &Bands, guests: u16, marks: &mut [u16]) -> Counts {
-        crowd_cover(self.head, self.operators, self.rides, self.presence, table, guests, marks)
+    fn cover(self, lent: Lent, marks: &mut [u16]) -> Counts {
+        let Lent { head, operators, rides, presence } = lent;
+        crowd_cover(head, operators, rides, presence, self.table, self.guests, self.minimums, marks)
     }
 
     /// The same with a faulty look-up.
-    fn cover_looked_up(self, wrong: WrongBands, table: &Bands, guests: u16, marks: &mut [u16]) -> Counts {
-        let limits = looked_up(wrong, table, guests);
+    fn cover_looked_up(self, wrong: WrongBands, lent: Lent, marks: &mut [u16]) -> Counts {
+        let limits = looked_up(wrong, self.table, self.guests);
         let mut left = marks.to_vec();
-        let counts = self.crowd_cover(&whole(limits), 0, &mut left);
+        let counts = Crowd { table: &whole(limits), guests: 0, ..self }.cover(lent, &mut left);
         if counts.code == 0 && limits.code != 0 {
             return refused(limits.code);
         }
@@ -183,21 +194,32 @@ impl Faulty {
         }
     }
 
-    pub(super) fn cover_for(&self, lent: Lent, table: &Bands, guests: u16, marks: &mut [u16]) -> Counts {
-        let limits = crowd_limits(table, guests);
-        let number = lent.crowd_cover(table, guests, &mut marks.to_vec()).code;
+    /// The minimums of the call before are given too.
+    pub(super) fn cover_for(&self, lent: Lent, crowd: Crowd, others: &[u16], marks: &mut [u16]) -> Counts {
+        let limits = crowd_limits(crowd.table, crowd.guests);
+        let asked = Asked { lent, minimums: crowd.minimums, alpha: limits.alpha, beta: limits.beta };
         match self.0 {
-            Fault::CrowdLookUp(wrong) => lent.cover_looked_up(wrong, table, guests, marks),
-            Fault::CrowdBeforeBoard(first) if (1..=5).contains(&number) && limits.code == first => refused(first),
+            Fault::CrowdLookUp(wrong) => crowd.cover_looked_up(wrong, lent, marks),
+            Fault::CrowdBeforeBoard(first) if limits.code == first => refused(first),
+            Fault::CrowdMinimums(wrong) => {
+                let cover = |Asked { lent, minimums, .. }: Asked, marks: &mut [u16]| {
+                    Crowd { minimums, ..crowd }.cover(lent, marks)
+                };
+                asked.cover(wrong, cover, marks)
+            }
             Fault::CrowdCover(wrong) => {
-                let under = lent.limits(limits.alpha, |_| limits.beta);
-                lent.spoiled(wrong, &under, |lent, marks| lent.crowd_cover(table, guests, marks), marks)
+                let limits = asked.limits(WrongMinimums::None);
+                lent.spoiled(wrong, &limits, |lent, marks| crowd.cover(lent, marks), marks)
             }
-            Fault::CrowdUsesMinimums if number == 0 && lent.head.rides as usize <= self.1.len() => {
-                let Lent { head, operators, rides, presence } = lent;
-                own_cover(head, operators, rides, presence, &self.1, limits.alpha, limits.beta, marks)
+            Fault::CrowdTableUnread if limits.code != 0 && asked.is_of_all() => {
+                let first = crowd.table.bands[0];
+                let limits = CrowdLimits { code: 0, alpha: first.alpha, beta: first.beta };
+                Crowd { table: &whole(limits), guests: 0, ..crowd }.cover(lent, marks)
             }
-            _ => lent.crowd_cover(table, guests, marks),
+            Fault::CrowdOtherMinimums if lent.head.rides as usize <= others.len() => {
+                Crowd { minimums: others, ..crowd }.cover(lent, marks)
+            }
+            _ => crowd.cover(lent, marks),
         }
     }
 }

@@ -6,7 +6,7 @@ use crate::faults::{Fault, WrongMinimums};
 use reference::frames::{Board, Reference};
 use reference::{own_cover, peel, Counts, Head, Peeled, PRESENT};
 
-/// What a peel or an own cover is lent to read, with its limits.
+/// What a peel or a cover is lent to read, with its limits.
 #[derive(Clone, Copy)]
 pub struct Asked<'a> {
     pub lent: Lent<'a>,
@@ -26,6 +26,11 @@ impl Asked<'_> {
     fn peel(self, marks: &mut [u16], steps: u16) -> Peeled {
         let Asked { lent: Lent { head, operators, rides, presence }, minimums, alpha, beta } = self;
         peel(head, operators, rides, presence, minimums, marks, alpha, beta, steps)
+    }
+
+    /// Whether every ride has a minimum.
+    pub fn is_of_all(self) -> bool {
+        (0..self.lent.head.rides as usize).all(|ride| self.minimums.get(ride).is_some_and(|one| *one != 0))
     }
 
     /// The number that a fault gives. The function gives the reference's.
@@ -76,7 +81,7 @@ impl Asked<'_> {
     }
 
     /// The limits of operators and rides as a fault reads them.
-    fn limits(self, wrong: WrongMinimums) -> Vec<u16> {
+    pub fn limits(self, wrong: WrongMinimums) -> Vec<u16> {
         let mut limits = self.lent.limits(self.alpha, |ride| self.ride_limit(wrong, ride));
         if matches!(wrong, WrongMinimums::OfOperators | WrongMinimums::OfOperatorsToo) {
             let of_operators = limits.iter_mut().take(self.lent.head.operators as usize);
@@ -93,6 +98,24 @@ impl Asked<'_> {
             of_rides.zip(self.minimums).filter(|(_, one)| **one != 0).for_each(|(word, _)| *word = PRESENT);
         }
         words
+    }
+
+    /// A cover that reads or tests its minimums otherwise. The function is the reference's cover.
+    pub fn cover(
+        self,
+        wrong: WrongMinimums,
+        reference: impl Fn(Asked, &mut [u16]) -> Counts,
+        marks: &mut [u16],
+    ) -> Counts {
+        let head = self.lent.head;
+        match self.number(wrong, |asked| reference(asked, &mut marks.to_vec()).code) {
+            0 => {
+                marks[..head.nodes()].fill(1);
+                self.drop_short(wrong, marks, u16::MAX);
+                counted(head, marks)
+            }
+            code => refused(code),
+        }
     }
 
     /// A peel that isn't refused.
@@ -122,15 +145,7 @@ impl Faulty {
 
     pub(super) fn cover_with(&self, asked: Asked, marks: &mut [u16]) -> Counts {
         match self.0 {
-            Fault::OwnMinimums(wrong) => match asked.number(wrong, |asked| asked.own_cover(&mut marks.to_vec()).code) {
-                0 => {
-                    let head = asked.lent.head;
-                    marks[..head.nodes()].fill(1);
-                    asked.drop_short(wrong, marks, u16::MAX);
-                    counted(head, marks)
-                }
-                code => refused(code),
-            },
+            Fault::OwnMinimums(wrong) => asked.cover(wrong, |asked, marks| asked.own_cover(marks), marks),
             Fault::OwnCover(wrong) => {
                 let limits = asked.limits(WrongMinimums::None);
                 asked.lent.spoiled(wrong, &limits, |lent, marks| Asked { lent, ..asked }.own_cover(marks), marks)
@@ -139,7 +154,7 @@ impl Faulty {
         }
     }
 
-    /// Marks each ride that had a minimum in the last peel or own cover as a query for that minimum does, and counts anew.
+    /// Marks each ride that had a minimum in the last peel or cover as a query for that minimum does, and counts anew.
     pub(super) fn query_with(
         &self,
         head: Head,

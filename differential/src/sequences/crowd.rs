@@ -1,7 +1,7 @@
 //! Look-ups in tables of bands, valid and other ones, and crowd covers.
 
-use super::{asked, cover_marks, damage, lent, limits, table, Size};
-use crate::compared::{Compared, Lent};
+use super::{asked, cover_marks, damage, lent, limits, own, table, Size};
+use crate::compared::{band_limits, Compared, Lent};
 use crate::numbers::Numbers;
 use differential::Library;
 use reference::crowd::{Band, Bands, BANDS_MOST, GUESTS_MOST};
@@ -180,31 +180,50 @@ pub fn crowd<B: Library>(compared: &mut Compared<B>, numbers: &mut Numbers, size
         if numbers.one_in(4) {
             damage(numbers, &mut lent);
         }
-        let mut marks = cover_marks(numbers, lent.head);
-        compared.crowd_cover(&lent, &table, guests(numbers, &table), &mut marks);
+        cover(compared, numbers, &lent, &table);
     }
 }
 
-/// A crowd cover for a table that is valid, on a board that isn't damaged.
-pub fn one<B: Library>(compared: &mut Compared<B>, numbers: &mut Numbers, board: &Lent) {
-    let table = valid(numbers, board.head);
-    let mut marks = cover_marks(numbers, board.head);
-    compared.crowd_cover(board, &table, guests(numbers, &table), &mut marks);
+/// A crowd cover with any minimums.
+fn cover<B: Library>(compared: &mut Compared<B>, numbers: &mut Numbers, lent: &Lent, table: &Bands) {
+    let guests = guests(numbers, table);
+    let minimums = own::minimums(numbers, lent.head, band_limits(table, guests).1);
+    let mut marks = cover_marks(numbers, lent.head);
+    compared.crowd_cover(lent, table, guests, &minimums, &mut marks);
 }
 
-/// Crowd covers on a board whose index is its own, and a query for the limits of each.
+/// The same for a table that is valid, on a board that isn't damaged.
+pub fn one<B: Library>(compared: &mut Compared<B>, numbers: &mut Numbers, board: &Lent) {
+    let table = valid(numbers, board.head);
+    cover(compared, numbers, board, &table);
+}
+
+/// Crowd covers on a board whose index is its own: for any minimums an own cover with the same, refused or not, and for
+/// minimums that are 0 or the band's beta a query for its limits.
 pub fn queried<B: Library>(compared: &mut Compared<B>, numbers: &mut Numbers, board: &Lent) {
     for _ in 0..TABLES {
         let table = valid(numbers, board.head);
         let guests = guests(numbers, &table);
+        let limits = compared.crowd_limits(&table, guests);
+        if limits.code != 0 {
+            continue;
+        }
+        let minimums = own::minimums(numbers, board.head, limits.beta);
+        let mut covered = cover_marks(numbers, board.head);
+        let mut owned = covered.clone();
+        let counts = compared.crowd_cover(board, &table, guests, &minimums, &mut covered);
+        let answer = compared.own_cover(board, &minimums, limits.alpha, limits.beta, &mut owned);
+        compared.totals.crowd.own_covered += 1;
+        compared.totals.same_as("crowd cover", "an own cover", (counts, &covered), (answer, &owned));
+
+        let minimums = own::idle_minimums(numbers, board.head, limits.beta);
         let mut covered = cover_marks(numbers, board.head);
         let mut queried = covered.clone();
-        let counts = compared.crowd_cover(board, &table, guests, &mut covered);
+        let counts = compared.crowd_cover(board, &table, guests, &minimums, &mut covered);
         if counts.code == 0 {
-            let limits = compared.crowd_limits(&table, guests);
             let answer = compared.query(board, limits.alpha, limits.beta, &mut queried);
             compared.totals.crowd.queried += 1;
-            compared.totals.same_as_queried("crowd cover", (counts, &covered), (answer, &queried));
+            compared.totals.same_as("crowd cover", "a query", (counts, &covered), (answer, &queried));
         }
     }
 }

@@ -1,4 +1,4 @@
-//! Lists of minimums, and own covers.
+//! Lists of minimums, of peels and covers, and own covers.
 
 use super::{asked, cover_marks, crowd, damage, length, lent, limits, marks, peel, resize, table, Size};
 use crate::compared::{Compared, Lent, MINIMUMS_MOST};
@@ -46,8 +46,15 @@ pub fn minimums(numbers: &mut Numbers, head: Head, beta: u16) -> Vec<u16> {
     list
 }
 
-/// A board and some lists: an own cover and a peel with minimums for each; some are given a damaged board. Then come a query
-/// and a crowd cover, which take no minimums.
+/// Each ride has none, or beta.
+pub fn idle_minimums(numbers: &mut Numbers, head: Head, beta: u16) -> Vec<u16> {
+    let mut list: Vec<u16> = (0..head.rides).map(|_| numbers.of(&[0, beta])).collect();
+    lengthen(numbers, &mut list);
+    list
+}
+
+/// A board and some lists: an own cover and a peel with minimums for each; some are given a damaged board. Then come a
+/// query, which takes no minimums, and a crowd cover with others.
 pub fn own<B: Library>(compared: &mut Compared<B>, numbers: &mut Numbers, size: Size) {
     let (n, m) = size.numbers(numbers);
     let pairs = table(numbers, n, m);
@@ -93,7 +100,7 @@ pub fn queried<B: Library>(compared: &mut Compared<B>, numbers: &mut Numbers, bo
             let limit = if one == 0 { beta } else { one };
             let answer = compared.query(board, alpha, limit, &mut queried);
             compared.totals.own.queried += 1;
-            compared.totals.same_as_queried("own cover", (counts, &covered), (answer, &queried));
+            compared.totals.same_as("own cover", "a query", (counts, &covered), (answer, &queried));
         }
     }
 }
