@@ -12,7 +12,7 @@ use Rattle.model.specs.Graph.{Graph, nodes, limits, own-limits, marked, present
 use Rattle.model.specs.Layout.{Operators, Rides, Index, Presence, Parts, parts, Board, mark-places, listed-graph, board-graph}
 use Rattle.model.specs.Calls.{QueryOutcome, PeelOutcome, board-query, board-peel, board-own-cover}
 use Rattle.model.specs.Crowd.{board-crowd-limits, board-crowd-cover}
-use Rattle.model.specs.Demand.{IsCoverUnder, IsCore, IsPeeledCover, MinimumsAll, MinimumsZeroOr}
+use Rattle.model.specs.Demand.{IsCoverUnder, IsCore, IsPeeledCover, MinimumsZeroOr}
 use Rattle.model.proofs.Cover.{cover-laws, cover-under-laws}
 use Rattle.model.proofs.Level.{level-laws}
 use Rattle.model.proofs.Peel.{peel-laws}
@@ -24,7 +24,7 @@ use Rattle.model.proofs.Preview.{preview-then-query}
 use Rattle.model.proofs.OwnCover.{own-limits-laws, own-cover-laws}
 use Rattle.model.proofs.CrowdTable.{crowd-limits-laws}
 use Rattle.model.proofs.CrowdCover.{crowd-cover-laws}
-use Rattle.delivery.specs.Calls.{run, built-board}
+use Rattle.delivery.specs.Calls.{Call, run, built-board}
 use Rattle.delivery.specs.Book.{book, written}
 use Rattle.delivery.specs.Core.{CallsThenIndex, CallsThenQuery, CallsThenPeel, CallsThenOwnCover, CallsThenSame, CallsThenCrowdCover, CallsThenCrowdSame, Demand2}
 use Rattle.delivery.proofs.Latest.{AllValid}
@@ -91,23 +91,14 @@ module _ (h : Head) (es : List Message) where
           subst (λ (g : Graph). IsCoverUnder g here limit (board-own-cover (board .head) (lent .part Operators) (lent .part Rides) (lent .part Presence) minimums α β marks)) (graph-extend h (says h es) behind)
           (cover-start (board-graph lent) (present (lent .part Presence)) here limit _ (present-extend h (says h es) behind) c)
 
-      written-same : (more‴ : List ℕ) → MinimumsAll (h .rides) minimums 0 → board-query (board .head) (board .part Index ++ more‴) (board .part Presence ++ more″) α β marks ≡ board-own-cover (board .head) (board .part Operators ++ more) (board .part Rides ++ more′) (board .part Presence ++ more″) minimums α β marks
+      written-same : (more‴ : List ℕ) → MinimumsZeroOr (h .rides) minimums β → board-query (board .head) (board .part Index ++ more‴) (board .part Presence ++ more″) α β marks ≡ board-own-cover (board .head) (board .part Operators ++ more) (board .part Rides ++ more′) (board .part Presence ++ more″) minimums α β marks
       unfolding written
-      written-same more‴ zeros =
+      written-same more‴ zero-or =
           let behind : Parts = parts more more′ [] [] [] [] [] more″ in
           let lent : Board = extend board behind in
           let laws = own-cover-laws (board .head) (lent .part Operators) (lent .part Rides) (lent .part Presence) minimums α β marks in
           let none = laws .number ∙ own-cover-none lent minimums marks (accepted-written h es few few′ valid behind .table) enough long in
-          ap (λ (i : List ℕ). board-query (board .head) (i ++ more‴) (lent .part Presence) α β marks) (written-index behind) ∙ laws .as-query more‴ zeros none
-
-  written-crowd : h .operators ≤ 200 → h .rides ≤ 60 → (marks : List ℕ) → mark-places h ≤ length marks → AllValid h es → (more more′ more″ more‴ minimums : List ℕ) → h .rides ≤ length minimums → (t : Bands) (guests : ℕ) → board-crowd-limits t guests .code ≡ 0 → MinimumsZeroOr (h .rides) minimums (board-crowd-limits t guests .beta) → board-query (board .head) (board .part Index ++ more‴) (board .part Presence ++ more″) (board-crowd-limits t guests .alpha) (board-crowd-limits t guests .beta) marks ≡ board-crowd-cover (board .head) (board .part Operators ++ more) (board .part Rides ++ more′) (board .part Presence ++ more″) t guests minimums marks
-  unfolding written
-  written-crowd few few′ marks long valid more more′ more″ more‴ minimums enough t guests accepted zero-or =
-      let behind : Parts = parts more more′ [] [] [] [] [] more″ in
-      let lent : Board = extend board behind in
-      let laws = crowd-cover-laws (board .head) (lent .part Operators) (lent .part Rides) (lent .part Presence) t guests minimums marks in
-      let none = laws .then-bands (own-cover-none lent minimums marks (accepted-written h es few few′ valid behind .table) enough long) ∙ accepted in
-      ap (λ (i : List ℕ). board-query (board .head) (i ++ more‴) (lent .part Presence) (board-crowd-limits t guests .alpha) (board-crowd-limits t guests .beta) marks) (written-index behind) ∙ laws .as-query more‴ zero-or none
+          ap (λ (i : List ℕ). board-query (board .head) (i ++ more‴) (lent .part Presence) α β marks) (written-index behind) ∙ laws .as-query more‴ zero-or none
 
 pub calls-then-index : CallsThenIndex
 calls-then-index b start calls e =
@@ -133,27 +124,31 @@ calls-then-own-cover b start calls more more′ more″ minimums α β marks e e
     (written-own (b .head) (book (b .head) (b .part Operators) (b .part Rides) start calls) (t .few-operators) (t .few-rides) α β marks long (valid-book b start calls e) more more′ more″ minimums enough)
 
 pub calls-then-same : CallsThenSame
-calls-then-same b start calls more more′ more″ more‴ minimums α β marks e enough long zeros =
+calls-then-same b start calls more more′ more″ more‴ minimums α β marks e enough long zero-or =
     let t = table b start e in
     subst (λ (x : Board). board-query (x .head) (x .part Index ++ more‴) (x .part Presence ++ more″) α β marks ≡ board-own-cover (x .head) (x .part Operators ++ more) (x .part Rides ++ more′) (x .part Presence ++ more″) minimums α β marks) (sym (board-is-book b start calls e))
-    (written-same (b .head) (book (b .head) (b .part Operators) (b .part Rides) start calls) (t .few-operators) (t .few-rides) α β marks long (valid-book b start calls e) more more′ more″ minimums enough more‴ zeros)
+    (written-same (b .head) (book (b .head) (b .part Operators) (b .part Rides) start calls) (t .few-operators) (t .few-rides) α β marks long (valid-book b start calls e) more more′ more″ minimums enough more‴ zero-or)
+
+-- where the look-up isn't refused, a crowd cover is the own cover for its limits
+module _ (b : Board) (start : ℕ) (calls : List Call) (more more′ more″ minimums : List ℕ) (t : Bands) (guests : ℕ) (marks : List ℕ) (accepted : board-crowd-limits t guests .code ≡ 0) where
+  abbrev left : Board
+  left = run (built-board b start) calls
+
+  same-own : board-crowd-cover (left .head) (left .part Operators ++ more) (left .part Rides ++ more′) (left .part Presence ++ more″) t guests minimums marks ≡ board-own-cover (left .head) (left .part Operators ++ more) (left .part Rides ++ more′) (left .part Presence ++ more″) minimums (board-crowd-limits t guests .alpha) (board-crowd-limits t guests .beta) marks
+  same-own = crowd-cover-laws (left .head) (left .part Operators ++ more) (left .part Rides ++ more′) (left .part Presence ++ more″) t guests minimums marks .as-own accepted
 
 pub calls-then-crowd-cover : CallsThenCrowdCover
 calls-then-crowd-cover b start calls more more′ more″ minimums t guests marks e enough long accepted =
     let x : Board = run (built-board b start) calls in
     let α : ℕ = board-crowd-limits t guests .alpha in
     let β : ℕ = board-crowd-limits t guests .beta in
-    subst (IsCoverUnder (board-graph x) (present (x .part Presence)) (own-limits (b .head .operators) minimums α β))
-    (sym (crowd-cover-laws (x .head) (x .part Operators ++ more) (x .part Rides ++ more′) (x .part Presence ++ more″) t guests minimums marks .as-own accepted))
+    subst (IsCoverUnder (board-graph x) (present (x .part Presence)) (own-limits (b .head .operators) minimums α β)) (sym (same-own b start calls more more′ more″ minimums t guests marks accepted))
     (calls-then-own-cover b start calls more more′ more″ minimums α β marks e enough long)
 
 pub calls-then-crowd-same : CallsThenCrowdSame
 calls-then-crowd-same b start calls more more′ more″ more‴ minimums t guests marks e enough long accepted zero-or =
-    let w = table b start e in
-    let α : ℕ = board-crowd-limits t guests .alpha in
-    let β : ℕ = board-crowd-limits t guests .beta in
-    subst (λ (x : Board). board-query (x .head) (x .part Index ++ more‴) (x .part Presence ++ more″) α β marks ≡ board-crowd-cover (x .head) (x .part Operators ++ more) (x .part Rides ++ more′) (x .part Presence ++ more″) t guests minimums marks) (sym (board-is-book b start calls e))
-    (written-crowd (b .head) (book (b .head) (b .part Operators) (b .part Rides) start calls) (w .few-operators) (w .few-rides) marks long (valid-book b start calls e) more more′ more″ more‴ minimums enough t guests accepted zero-or)
+    calls-then-same b start calls more more′ more″ more‴ minimums (board-crowd-limits t guests .alpha) (board-crowd-limits t guests .beta) marks e enough long zero-or ∙
+    sym (same-own b start calls more more′ more″ minimums t guests marks accepted)
 
 pub demand-2 : Demand2
 demand-2 =

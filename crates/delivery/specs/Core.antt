@@ -11,7 +11,7 @@ use Rattle.model.specs.Layout.{Operators, Rides, Index, Presence, Board, mark-p
 use Rattle.model.specs.Refusal.{build-refusal, peel-refusal}
 use Rattle.model.specs.Calls.{board-query, board-peel, board-own-cover}
 use Rattle.model.specs.Crowd.{board-crowd-limits, board-crowd-cover}
-use Rattle.model.specs.Demand.{AllOnes, PeelLaws, CoverLaws, CoverUnderLaws, LevelLaws, ZeroIsNoLimit, PresenceLaws, QueryIsCore, IsCoverUnder, IsCore, IndexThenQuery, BuildThenQuery, PreviewThenQuery, PeelIsLargest, IsPeeledCover, OwnLimitsLaws, MinimumsAll, MinimumsZeroOr, PeelIsCover, OwnCoverLaws, CrowdLimitsLaws, CrowdCoverLaws}
+use Rattle.model.specs.Demand.{AllOnes, PeelLaws, CoverLaws, CoverUnderLaws, LevelLaws, ZeroIsNoLimit, PresenceLaws, QueryIsCore, IsCoverUnder, IsCore, IndexThenQuery, BuildThenQuery, PreviewThenQuery, PeelIsLargest, IsPeeledCover, OwnLimitsLaws, MinimumsZeroOr, PeelIsCover, OwnCoverLaws, CrowdLimitsLaws, CrowdCoverLaws}
 use Rattle.delivery.specs.Calls.{Call, run, built-board}
 
 -- the index that a list of calls left is that of the listed pairs that then count
@@ -57,14 +57,14 @@ CallsThenOwnCover =
     IsCoverUnder (board-graph left) (present (left .part Presence)) (own-limits (b .head .operators) minimums α β)
     (board-own-cover (left .head) (left .part Operators ++ more) (left .part Rides ++ more′) (left .part Presence ++ more″) minimums α β marks)
 
--- and with all minimums 0 its marks and counts are those of a query on the index that the calls left
+-- and where each minimum is 0 or β its marks and counts are those of a query on the index that the calls left
 abbrev pub CallsThenSame : Type 0
 CallsThenSame =
     (b : Board) (start : ℕ) (calls : List Call) (more more′ more″ more‴ minimums : List ℕ) (α β : ℕ) (marks : List ℕ) →
     build-refusal b start ≡ 0 →
     b .head .rides ≤ length minimums →
     mark-places (b .head) ≤ length marks →
-    MinimumsAll (b .head .rides) minimums 0 →
+    MinimumsZeroOr (b .head .rides) minimums β →
     let left = run (built-board b start) calls in
     board-query (left .head) (left .part Index ++ more‴) (left .part Presence ++ more″) α β marks
     ≡ board-own-cover (left .head) (left .part Operators ++ more) (left .part Rides ++ more′) (left .part Presence ++ more″) minimums α β marks
@@ -83,7 +83,7 @@ CallsThenCrowdCover =
     (own-limits (b .head .operators) minimums (board-crowd-limits t guests .alpha) (board-crowd-limits t guests .beta))
     (board-crowd-cover (left .head) (left .part Operators ++ more) (left .part Rides ++ more′) (left .part Presence ++ more″) t guests minimums marks)
 
--- and where each minimum is 0 or the look-up's β its marks and counts are those of a query for the look-up's limits on the index that the calls left
+-- and where each minimum is 0 or the look-up's β its marks and counts are those of a query for the look-up's limits
 abbrev pub CallsThenCrowdSame : Type 0
 CallsThenCrowdSame =
     (b : Board) (start : ℕ) (calls : List Call) (more more′ more″ more‴ minimums : List ℕ) (t : Bands) (guests : ℕ) (marks : List ℕ) →

@@ -1,11 +1,11 @@
 -- Cover (α, β) is the (α, β)-core of Definition 2.1, and covers nest. Assumes nothing.
 use mathlib.Core.Path.{_≡_, sym, ap, _∙_, subst}
-use mathlib.Core.Logic.{_↔_}
+use mathlib.Core.Logic.{_↔_, _⊎_, ⊎-elim}
 use mathlib.Core.Bool.{Bool, _&&_}
 use mathlib.Core.List.{List}
 use Prim.Native.Nat.{ℕ, _+_, _-_, _≤_, _<_}
 use native.Mathlib.Omega.{arith}
-use native.Mathlib.Decide.{decLt}
+use native.Mathlib.Decide.{decLt, ℕ-discrete}
 use lib.Dec.{T}
 use borrow.Author.Tests.{lt-ltb, le-ltb, eq-eqb, ne-eqb}
 use lib.ListN.{length, getD, replicate, length-replicate}
@@ -39,6 +39,9 @@ module _ (minimums : List ℕ) (β v : ℕ) where
 
   pub ride-own : (m : ℕ) → 1 ≤ m → getD minimums v 0 ≡ m → ride-limit minimums β v ≡ m
   ride-own m l e = rw (ne-eqb (getD minimums v 0) 0 (λ z. omega (arith, z, e)), ride-limit) e
+
+  pub ride-zero-or : (getD minimums v 0 ≡ 0) ⊎ (getD minimums v 0 ≡ β) → ride-limit minimums β v ≡ β
+  ride-zero-or = ⊎-elim ride-none (λ e. elim (ℕ-discrete β 0) [ yes z ↦ ride-none (e ∙ z) | no n ↦ ride-own β (omega (arith, n)) e ])
 
 module _ (n : ℕ) (minimums : List ℕ) (α β x : ℕ) where
   pub own-operator : x < n → own-limits n minimums α β x ≡ α

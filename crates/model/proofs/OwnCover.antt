@@ -1,6 +1,6 @@
 -- The cover with minimums: its number, that it is the largest set under its limits, and what it is where all minimums are one. Assumes nothing.
 use mathlib.Core.Path.{_≡_, refl, sym, ap, _∙_}
-use mathlib.Core.Bool.{Bool, true, false}
+use mathlib.Core.Bool.{true, false}
 use mathlib.Core.List.{List, [], _++_}
 use Prim.Native.Nat.{ℕ, _+_, _-_, _≤_, _<_}
 use native.Mathlib.Omega.{arith}
@@ -9,14 +9,14 @@ use lib.ListN.{length, getD, length-append, List·getD-append}
 use Rattle.model.specs.declared.Head.{Head}
 use Rattle.model.specs.Graph.{Graph, limits, ride-limit, own-limits, marked, present, index-of}
 use Rattle.model.specs.Layout.{mark-places, listed, counting-graph}
-use Rattle.model.specs.Refusal.{first-number, table-cases, peel-refusal, own-cover-refusal}
+use Rattle.model.specs.Refusal.{first-number, peel-refusal, own-cover-refusal}
 use Rattle.model.specs.Calls.{QueryOutcome, shown, board-query, board-peel, board-own-cover}
-use Rattle.model.specs.Demand.{AllOnes, IsCoverUnder, IsCore, OwnLimitsLaws, MinimumsAll, OwnCoverLaws}
-use Rattle.model.proofs.Cover.{ride-none, ride-own, own-operator, own-ride, limits-rides, own-one, own-core}
+use Rattle.model.specs.Demand.{AllOnes, IsCoverUnder, IsCore, OwnLimitsLaws, MinimumsZeroOr, OwnCoverLaws}
+use Rattle.model.proofs.Cover.{ride-none, ride-own, ride-zero-or, own-operator, own-ride, limits-rides, own-one, own-core}
 use Rattle.model.proofs.Peel.{peel-laws}
 use Rattle.model.proofs.Refusal.{peel-lent}
 use Rattle.model.proofs.EndToEnd.{query-shown, peel-is-cover}
-use Rattle.model.proofs.PresentCover.{present-cover-same, query-cover, short-marks, short-minimums, ShowsCover, call-code, code-number, call-under, call-keeps, call-answer, calls-same}
+use Rattle.model.proofs.PresentCover.{present-cover-same, query-cover, cases-marks, cases-minimums, ShowsCover, call-code, code-number, call-under, call-keeps, call-answer, calls-same}
 
 -- ---- the limits
 
@@ -79,12 +79,12 @@ module _ (h : Head) (operators rides presence minimums : List ℕ) (α β : ℕ)
       let p = peel-is-cover h operators rides presence minimums start α β allowed none ones .own in
       peel-laws .only g limit (present presence) (marked (board-peel h operators rides presence minimums start α β allowed .marks)) (marked (outcome .marks)) (p .largest done) (under e .largest)
 
-  queried-same : (more : List ℕ) → MinimumsAll (h .rides) minimums 0 → outcome .answer .code ≡ 0 → board-query h (index-of g ++ more) presence α β marks ≡ outcome
+  queried-same : (more : List ℕ) → MinimumsZeroOr (h .rides) minimums β → outcome .answer .code ≡ 0 → board-query h (index-of g ++ more) presence α β marks ≡ outcome
   unfolding own-cover-refusal
-  queried-same more zeros e =
+  queried-same more zero-or e =
       let lent = peel-lent h operators rides presence minimums marks [] (number-of e) .0 in
       query-shown h (listed (h .pairs) operators rides) presence more α β marks (lent .few-operators) (lent .few-rides) (lent .presence-long) (lent .marks-long) ∙
-      ap (λ (s : List ℕ). shown h s marks) (query-cover h operators rides presence α β ∙ sym (present-cover-same h operators rides presence limit (limits (h .operators) α β) (own-one (h .operators) (h .rides) minimums α β β (λ v l. ride-none minimums β v (zeros v l))))) ∙
+      ap (λ (s : List ℕ). shown h s marks) (query-cover h operators rides presence α β ∙ sym (present-cover-same h operators rides presence limit (limits (h .operators) α β) (own-one (h .operators) (h .rides) minimums α β β (λ v l. ride-zero-or minimums β v (zero-or v l))))) ∙
       sym (own-call .taken (number-of e))
 
 -- words behind the rides' minimums change nothing
@@ -92,13 +92,13 @@ behind-same : (h : Head) (operators rides presence minimums : List ℕ) (α β :
 unfolding own-cover-refusal
 behind-same h operators rides presence minimums α β marks more long =
     calls-same (own-call h operators rides presence (minimums ++ more) α β marks) (own-call h operators rides presence minimums α β marks)
-    (ap (λ (s : Bool). first-number (table-cases h s operators rides)) (short-minimums h operators rides presence (minimums ++ more) minimums marks (omega (arith, length-append minimums more)) long))
+    (ap first-number (cases-minimums h operators rides presence (minimums ++ more) minimums marks (omega (arith, length-append minimums more)) long))
     (λ z. behind-limits (h .operators) (h .rides) minimums more α β long)
 
 number-length : (h : Head) (operators rides presence minimums marks other : List ℕ) → length other ≡ length marks → own-cover-refusal h operators rides presence minimums other ≡ own-cover-refusal h operators rides presence minimums marks
 unfolding own-cover-refusal
 number-length h operators rides presence minimums marks other e =
-    ap (λ (s : Bool). first-number (table-cases h s operators rides)) (short-marks h operators rides presence minimums marks other e)
+    ap first-number (cases-marks h operators rides presence minimums marks other e)
 
 any-marks : (h : Head) (operators rides presence minimums : List ℕ) (α β : ℕ) (marks other : List ℕ) → length other ≡ length marks → board-own-cover h operators rides presence minimums α β other .answer ≡ board-own-cover h operators rides presence minimums α β marks .answer
 any-marks h operators rides presence minimums α β marks other e =
@@ -114,6 +114,7 @@ own-cover-laws h operators rides presence minimums α β marks =
       as-peel = peeled-same h operators rides presence minimums α β marks;
       all-equal = λ m l all. one-core h operators rides presence minimums α β marks m (λ v k. ride-own minimums β v m l (all v k));
       all-zero = λ all. one-core h operators rides presence minimums α β marks β (λ v k. ride-none minimums β v (all v k));
+      zero-or = λ each. one-core h operators rides presence minimums α β marks β (λ v k. ride-zero-or minimums β v (each v k));
       as-query = queried-same h operators rides presence minimums α β marks;
       keeps = call-keeps (own-call h operators rides presence minimums α β marks);
       any-answer = any-marks h operators rides presence minimums α β marks;

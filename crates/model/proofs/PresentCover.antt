@@ -14,7 +14,7 @@ use Rattle.model.specs.declared.Counts.{Counts}
 use Rattle.model.specs.Count.{bit}
 use Rattle.model.specs.Graph.{Graph, nodes, Largest, everybody, limits, marked, present, raised, cover-under, index-of}
 use Rattle.model.specs.Layout.{pair-places, mark-places, listed, counting-graph}
-use Rattle.model.specs.Refusal.{refused-3, peel-short}
+use Rattle.model.specs.Refusal.{refused-3, table-cases, peel-cases}
 use Rattle.model.specs.Calls.{QueryOutcome, query-marks, counts, shown, not-shown, present-limits, present-cover}
 use Rattle.model.specs.Outcome.{queried}
 use Rattle.model.specs.Demand.{IsCoverUnder, Keeps}
@@ -74,13 +74,13 @@ module _ (h : Head) (operators rides presence : List ℕ) where
   before = refused-3 (pair-places h) operators || refused-3 (pair-places h) rides || refused-3 (mark-places h) presence
 
   -- of the marks that come in the length counts alone
-  pub short-marks : (minimums marks other : List ℕ) → length other ≡ length marks → peel-short h operators rides presence minimums other ≡ peel-short h operators rides presence minimums marks
-  short-marks minimums marks other e = ap (λ (n : ℕ). before || refused-3 (h .rides) minimums || ltb n (mark-places h)) e
+  pub cases-marks : (minimums marks other : List ℕ) → length other ≡ length marks → peel-cases h operators rides presence minimums other ≡ peel-cases h operators rides presence minimums marks
+  cases-marks minimums marks other e = ap (λ (n : ℕ). table-cases h (before || refused-3 (h .rides) minimums || ltb n (mark-places h)) operators rides) e
 
   -- of minimums, that they are long enough
-  pub short-minimums : (minimums other marks : List ℕ) → h .rides ≤ length minimums → h .rides ≤ length other → peel-short h operators rides presence minimums marks ≡ peel-short h operators rides presence other marks
-  short-minimums minimums other marks long long′ =
-      ap (λ (b : Bool). before || b || refused-3 (mark-places h) marks) (le-ltb (length minimums) (h .rides) long ∙ sym (le-ltb (length other) (h .rides) long′))
+  pub cases-minimums : (minimums other marks : List ℕ) → h .rides ≤ length minimums → h .rides ≤ length other → peel-cases h operators rides presence minimums marks ≡ peel-cases h operators rides presence other marks
+  cases-minimums minimums other marks long long′ =
+      ap (λ (b : Bool). table-cases h (before || b || refused-3 (mark-places h) marks) operators rides) (le-ltb (length minimums) (h .rides) long ∙ sym (le-ltb (length other) (h .rides) long′))
 
 -- a call with this number and outcome: it shows this cover over the marks that came in, or is refused
 pub record ShowsCover (h : Head) (operators rides presence : List ℕ) (limit : ℕ → ℕ) (marks : List ℕ) (number : ℕ) (outcome : QueryOutcome) : Type 0 where

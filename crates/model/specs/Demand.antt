@@ -340,8 +340,10 @@ pub record OwnCoverLaws (h : Head) (operators rides presence minimums : List ℕ
       IsCore (counting-graph h operators rides presence) (present presence) α m (board-own-cover h operators rides presence minimums α β marks)
   pub all-zero : MinimumsAll (h .rides) minimums 0 → board-own-cover h operators rides presence minimums α β marks .answer .code ≡ 0 →
       IsCore (counting-graph h operators rides presence) (present presence) α β (board-own-cover h operators rides presence minimums α β marks)
-  -- with all minimums 0 a query for these limits on an index of the same pairs gives the same
-  pub as-query : (more : List ℕ) → MinimumsAll (h .rides) minimums 0 → board-own-cover h operators rides presence minimums α β marks .answer .code ≡ 0 →
+  -- so do minimums that are each 0 or β; a query for (α, β) on an index of the same pairs then gives the same
+  pub zero-or : MinimumsZeroOr (h .rides) minimums β → board-own-cover h operators rides presence minimums α β marks .answer .code ≡ 0 →
+      IsCore (counting-graph h operators rides presence) (present presence) α β (board-own-cover h operators rides presence minimums α β marks)
+  pub as-query : (more : List ℕ) → MinimumsZeroOr (h .rides) minimums β → board-own-cover h operators rides presence minimums α β marks .answer .code ≡ 0 →
       board-query h (index-of (counting-graph h operators rides presence) ++ more) presence α β marks ≡ board-own-cover h operators rides presence minimums α β marks
   -- refused, it leaves the marks, and its counts are 0; places past operators + rides stay
   pub keeps : Keeps h marks (board-own-cover h operators rides presence minimums α β marks)
