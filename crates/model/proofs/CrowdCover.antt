@@ -85,12 +85,11 @@ module _ (h : Head) (operators rides presence : List ℕ) (t : Bands) (guests : 
   covered minimums marks = board-crowd-cover h operators rides presence t guests minimums marks
 
   -- two lists that are long enough and give every node the same limit
-  lists-same : (minimums other marks : List ℕ) → h .rides ≤ length minimums → h .rides ≤ length other → (crowd-refusal t guests ≡ 0 → (x : ℕ) → x < mark-places h → band-limits h t guests minimums x ≡ band-limits h t guests other x) → covered minimums marks ≡ covered other marks
+  lists-same : (minimums other marks : List ℕ) → h .rides ≤ length minimums → h .rides ≤ length other → (crowd-cover-refusal h operators rides presence t guests minimums marks ≡ 0 → (x : ℕ) → x < mark-places h → band-limits h t guests minimums x ≡ band-limits h t guests other x) → covered minimums marks ≡ covered other marks
   unfolding crowd-cover-refusal
-  lists-same minimums other marks long long′ same =
+  lists-same minimums other marks long long′ =
       calls-same (crowd-call h operators rides presence t guests minimums marks) (crowd-call h operators rides presence t guests other marks)
       (ap (λ (cs : List (ℕ × Bool)). first-number (cs ++ crowd-cases t guests)) (cases-minimums h operators rides presence minimums other marks long long′))
-      (λ z. same (number-split h operators rides presence t guests minimums marks z .1))
 
   behind-same : (minimums more marks : List ℕ) → h .rides ≤ length minimums → covered (minimums ++ more) marks ≡ covered minimums marks
   behind-same minimums more marks long =
@@ -98,11 +97,11 @@ module _ (h : Head) (operators rides presence : List ℕ) (t : Bands) (guests : 
       (λ e. behind-limits (h .operators) (h .rides) minimums more (band-for t guests .alpha) (band-for t guests .beta) long)
 
   -- minimums that are each 0 or the band's β, beside zeros
-  zeros-same : (minimums zeros marks : List ℕ) → MinimumsAll (h .rides) zeros 0 → h .rides ≤ length zeros → h .rides ≤ length minimums → (board-crowd-limits t guests .code ≡ 0 → MinimumsZeroOr (h .rides) minimums (board-crowd-limits t guests .beta)) → covered minimums marks ≡ covered zeros marks
+  zeros-same : (minimums zeros marks : List ℕ) → MinimumsAll (h .rides) zeros 0 → h .rides ≤ length zeros → h .rides ≤ length minimums → (covered minimums marks .answer .code ≡ 0 → MinimumsZeroOr (h .rides) minimums (board-crowd-limits t guests .beta)) → covered minimums marks ≡ covered zeros marks
   zeros-same minimums zeros marks none long long′ zero-or =
-      lists-same minimums zeros marks long′ long (λ e x l.
+      lists-same minimums zeros marks long′ long (λ z x l.
       let b : ℕ = band-for t guests .beta in
-      let each = subst (λ (k : CrowdLimits). MinimumsZeroOr (h .rides) minimums (k .beta)) (limits-taken t guests e) (zero-or (limits-code t guests 0 e)) in
+      let each = subst (λ (k : CrowdLimits). MinimumsZeroOr (h .rides) minimums (k .beta)) (limits-taken t guests (number-split h operators rides presence t guests minimums marks z .1)) (zero-or (crowd-code h operators rides presence t guests minimums marks 0 z)) in
       own-one (h .operators) (h .rides) minimums (band-for t guests .alpha) b b (λ v k. ride-zero-or minimums b v (each v k)) x l ∙
       sym (own-one (h .operators) (h .rides) zeros (band-for t guests .alpha) b b (λ v k. ride-none zeros b v (none v k)) x l))
 

@@ -420,11 +420,12 @@ pub record CrowdCoverLaws (h : Head) (operators rides presence : List ℕ) (t : 
       IsCoverUnder (counting-graph h operators rides presence) (present presence)
       (own-limits (h .operators) minimums (board-crowd-limits t guests .alpha) (board-crowd-limits t guests .beta))
       (board-crowd-cover h operators rides presence t guests minimums marks)
-  -- with minimums that are each 0 or the look-up's β it is what it is with zeros, refused or not; where the look-up is refused, with any minimums
+  -- it is what it is with zeros, wherever it is refused, and where its minimums are each 0 or the look-up's β
   pub unchanged : (zeros : List ℕ) → MinimumsAll (h .rides) zeros 0 → h .rides ≤ length zeros → h .rides ≤ length minimums →
-      (board-crowd-limits t guests .code ≡ 0 → MinimumsZeroOr (h .rides) minimums (board-crowd-limits t guests .beta)) →
+      (board-crowd-cover h operators rides presence t guests minimums marks .answer .code ≡ 0 → MinimumsZeroOr (h .rides) minimums (board-crowd-limits t guests .beta)) →
       board-crowd-cover h operators rides presence t guests minimums marks ≡ board-crowd-cover h operators rides presence t guests zeros marks
-  -- not refused, that is what 2.6 gives: the core for the look-up's limits, and what a query for these gives on an index of the same pairs
+  -- with such minimums and not refused, it is what 2.6 gives: the core for the look-up's limits, and what a query for these gives on an index of
+  -- the same pairs
   pub core : MinimumsZeroOr (h .rides) minimums (board-crowd-limits t guests .beta) →
       board-crowd-cover h operators rides presence t guests minimums marks .answer .code ≡ 0 →
       IsCore (counting-graph h operators rides presence) (present presence) (board-crowd-limits t guests .alpha) (board-crowd-limits t guests .beta)
