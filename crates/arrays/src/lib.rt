@@ -1,5 +1,7 @@
 // Arrays of 16-bit words, of 32-bit stamps and of bytes: one value stored from one place up to another; words, stamps and bytes copied, words stored and compared with
 // the old ones, marks counted.
+#![tactic(auto)]
+
 ghost use Rattle.std.specs.Prelude.{◌≡◌, not, ◌++◌, ℕ, ◌≤◌, ◌<◌, eqb, ltb, length, get_or, take, drop};
 ghost use Rattle.model.specs.Count.{bit, count};
 ghost use Rattle.model.specs.Graph.{marked};

@@ -1,4 +1,5 @@
 // The turns of a message list: each message is entered, and the index is filled once.
+#![tactic(auto)]
 ghost use Rattle.std.specs.Prelude.{◌≡◌, ◌<◌};
 ghost use Rattle.model.specs.Layout.{lent};
 ghost use Rattle.model.specs.Refusal.{list_refusal};
@@ -9,7 +10,7 @@ ghost use Rattle.call_message_list.specs.Once.{turns_of, turned};
 use model::{Head, Message};
 
 // A list's number, and how many of its messages have a turn.
-#[derive(Drop)]
+#[derive(Clone, Copy)]
 pub struct Turns {
     pub code: u16,
     pub turns: usize,

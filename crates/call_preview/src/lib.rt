@@ -1,4 +1,5 @@
 // A preview: refused, or the message taken on a copy of the board in spare memory.
+#![tactic(auto)]
 ghost use Rattle.std.specs.Prelude.{◌≡◌};
 ghost use Rattle.model.specs.Layout.{lent};
 ghost use Rattle.model.specs.Message.{board_preview};
@@ -7,7 +8,7 @@ ghost use Rattle.model.specs.Outcome.{answered};
 use model::{Answer, Head, Message};
 
 // What a preview answers, and the head of the spare board after it.
-#[derive(Drop)]
+#[derive(Clone, Copy)]
 pub struct Previewed {
     pub answer: Answer,
     pub head: Head,

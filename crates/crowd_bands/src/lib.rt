@@ -1,4 +1,5 @@
 // A crowd table: the numbers 16 to 18, and the limits of the band that a guest count falls in. All of it over the table's words, four a band.
+#![tactic(auto)]
 ghost use Rattle.std.specs.Prelude.{◌≡◌, ◌&&◌, ◌||◌, ℕ, suc, ◌-◌, ◌≤◌, ◌<◌, ltb, leb};
 ghost use Rattle.model.specs.declared.Bands.{Bands as Table};
 ghost use Rattle.model.specs.Count.{some, lowest};
@@ -136,7 +137,7 @@ fn place_of(words: &[u16; 32], n: usize, guests: u16) -> usize
 }
 
 // What a look-up finds. The number stands last, so that the limits, which lie side by side in the table, are stored and read as one.
-#[derive(Drop)]
+#[derive(Clone, Copy)]
 pub struct Found {
     pub alpha: u16,
     pub beta: u16,

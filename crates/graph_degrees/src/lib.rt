@@ -1,4 +1,5 @@
 // The one reading of a pair table: its pairs that count fill the dense tables of clearances, and the degrees of the operators and of the rides.
+#![tactic(auto)]
 ghost use Rattle.std.specs.Prelude.{◌≡◌, Bool, ◌&&◌, ℕ, ◌+◌, ◌≤◌, ◌<◌, eqb, length, get_or};
 ghost use Rattle.model.specs.Count.{bit};
 ghost use Rattle.model.specs.Graph.{Graph, marked, present as is_present};
@@ -67,7 +68,7 @@ fn so_far(degrees: &[u8], u: usize, last: usize, degree: u8) -> u8
 
 // The degrees of the operators and of the rides.
 #[repr(C)]
-#[derive(Drop)]
+#[derive(Clone, Copy)]
 pub struct Degrees {
     pub operators: [u8; 200],
     pub rides: [u8; 60],

@@ -1,8 +1,9 @@
 // A part as a frame lends it (reference/README.md): its memory set, cut to the places lent, and its checksum.
+#![tactic(auto)]
 
 // A run of places, from the first to before the end: each is set to the number at a place of the frame, which is so many
 // words further on for the next.
-#[derive(Drop)]
+#[derive(Clone, Copy)]
 struct Run {
     first: usize,
     end: usize,
@@ -65,7 +66,7 @@ fn set(frame: &[u8], run: Run, words: &mut [u16], longs: &mut [u32]) -> usize {
 }
 
 // How many places a call lends of a part, and the place in the frame of the next part.
-#[derive(Drop)]
+#[derive(Clone, Copy)]
 pub struct Loaded {
     pub places: usize,
     pub next: usize,

@@ -1,4 +1,5 @@
 // A message entered: its numbers from 7 on, its stamp and revision, its pair or word, and the number of pairs. No word of the index is read or written.
+#![tactic(auto)]
 ghost use Rattle.std.specs.Prelude.{◌≡◌, List, ℕ, ◌≤◌};
 ghost use Rattle.model.specs.Layout.{lent};
 ghost use Rattle.refusal_message.specs.Room.{Room};
@@ -64,7 +65,7 @@ pub fn enter(
 }
 
 // What a message of a list answers, and the number of pairs after it.
-#[derive(Drop)]
+#[derive(Clone, Copy)]
 pub struct Numbered {
     pub code: u16,
     pub pairs: u16,

@@ -1,4 +1,5 @@
 // A message that is not refused, taken: entered, and the index filled anew.
+#![tactic(auto)]
 ghost use Rattle.std.specs.Prelude.{◌≡◌};
 ghost use Rattle.model.specs.Layout.{lent};
 ghost use Rattle.model.specs.Refusal.{message_refusal};
@@ -8,7 +9,7 @@ ghost use Rattle.message_taking.specs.Deliver.{outcome_of};
 use model::{Head, Message};
 
 // What a message answers, and the number of pairs after it.
-#[derive(Drop)]
+#[derive(Clone, Copy)]
 pub struct Delivered {
     pub code: u16,
     pub differ: u16,

@@ -1,4 +1,5 @@
 // The run of a peel: its state travels by value with the lent marks, and each step drops the lowest node that falls short and hands on the next state.
+#![tactic(auto)]
 ghost use Rattle.std.specs.Prelude.{◌≡◌, ℕ, ◌+◌, ◌<◌, ◌≤◌};
 ghost use Rattle.model.specs.Graph.{Graph};
 ghost use Rattle.model.specs.Layout.{mark_places};
@@ -11,7 +12,7 @@ use model::Head;
 
 // The state of a peel: the remaining degree of every node (operators first, then rides; 0 where it wasn't marked at the start), the sizes, the steps
 // taken, and the node that is dropped next: the lowest that falls short, or the number of nodes where nobody does.
-#[derive(Drop)]
+#[derive(Clone, Copy)]
 pub struct State {
     pub degrees: [u8; 260],
     pub operators: u16,

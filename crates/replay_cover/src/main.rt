@@ -1,10 +1,11 @@
 // Replays inputs of the program `cover`, and writes the output of each (reference/README.md).
+#![tactic(auto)]
 ghost use Rattle.std.specs.Prelude.{◌≤◌, ◌<◌};
 
 use libc::{STDIN_FILENO, STDOUT_FILENO};
 
 // The count of bytes of the next input, and whether the stream had one more.
-#[derive(Drop)]
+#[derive(Clone, Copy)]
 struct Counted {
     more: bool,
     count: u16,

@@ -1,4 +1,5 @@
 // The message and message list calls of a frame, sent through `call_message::deliver`: a message is delivered as a list of one.
+#![tactic(auto)]
 use message_taking::Delivered;
 use replay_memory::Lent;
 
