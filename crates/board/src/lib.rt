@@ -1,6 +1,7 @@
 // The board's calls: build, query, peel and the cover with minimums. Each answers document 01's number, and leaves the lent parts as the
 // definitions say.
 #![tactic(auto)]
+
 ghost use Rattle.std.specs.Prelude.{◌≡◌};
 ghost use Rattle.model.specs.Layout.{lent};
 ghost use Rattle.model.specs.Calls.{board_build, board_query, board_peel, board_own_cover};

@@ -1,5 +1,6 @@
 // A build: refused, or the pair arrays' tails, the stamps, the revisions, the presence parts and the index are filled.
 #![tactic(auto)]
+
 ghost use Rattle.std.specs.Prelude.{◌≡◌};
 ghost use Rattle.model.specs.Layout.{lent};
 ghost use Rattle.model.specs.Calls.{board_build};

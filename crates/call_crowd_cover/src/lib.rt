@@ -1,5 +1,6 @@
 // The cover for a guest count: refused, or the cover of those present under the limits of its band, with minimums.
 #![tactic(auto)]
+
 ghost use Rattle.std.specs.Prelude.{◌≡◌};
 ghost use Rattle.model.specs.Crowd.{board_crowd_cover};
 ghost use Rattle.model.specs.Outcome.{queried};

@@ -1,5 +1,6 @@
 // The turns of a message list: each message is entered, and the index is filled once.
 #![tactic(auto)]
+
 ghost use Rattle.std.specs.Prelude.{◌≡◌, ◌<◌};
 ghost use Rattle.model.specs.Layout.{lent};
 ghost use Rattle.model.specs.Refusal.{list_refusal};

@@ -1,5 +1,6 @@
 // The cover with minimums: refused, or the cover of those present under their limits.
 #![tactic(auto)]
+
 ghost use Rattle.std.specs.Prelude.{◌≡◌};
 ghost use Rattle.model.specs.Calls.{board_own_cover};
 ghost use Rattle.model.specs.Outcome.{queried};

@@ -1,5 +1,6 @@
 // A peel: refused, or marks are cleared, over new tables.
 #![tactic(auto)]
+
 ghost use Rattle.std.specs.Prelude.{◌≡◌};
 ghost use Rattle.model.specs.Calls.{board_peel};
 ghost use Rattle.model.specs.Outcome.{peel_left};

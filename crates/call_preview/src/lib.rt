@@ -1,5 +1,6 @@
 // A preview: refused, or the message taken on a copy of the board in spare memory.
 #![tactic(auto)]
+
 ghost use Rattle.std.specs.Prelude.{◌≡◌};
 ghost use Rattle.model.specs.Layout.{lent};
 ghost use Rattle.model.specs.Message.{board_preview};

@@ -1,5 +1,6 @@
 // A query: refused, or the marks and counts of one row of the index.
 #![tactic(auto)]
+
 ghost use Rattle.std.specs.Prelude.{◌≡◌};
 ghost use Rattle.model.specs.Calls.{board_query};
 ghost use Rattle.model.specs.Outcome.{queried};

@@ -1,6 +1,7 @@
 // The program `cover`: a board on standard input, its cover on standard output. The longest board has 48,010 bytes; one byte
 // more is read, so that a longer input is refused as its length asks.
 #![tactic(auto)]
+
 fn main() {
     let mut input = [0u8; 48011];
     let n = io::read_full(libc::STDIN_FILENO, &mut input);

@@ -1,5 +1,6 @@
 // The input of `cover`: its 16-bit little-endian words, and the checks of its sizes.
 #![tactic(auto)]
+
 ghost use Rattle.std.specs.Prelude.{◌≡◌, ◌+◌, ◌*◌, ◌≤◌, ◌<◌, length};
 ghost use Rattle.model.specs.Layout.{over};
 ghost use Rattle.model.specs.Refusal.{first_number};

@@ -1,5 +1,6 @@
 // Writers of the lines of a cover: each stores its lines from the place `at` on, and answers the place after them.
 #![tactic(auto)]
+
 ghost use Rattle.std.specs.Prelude.{◌≡◌, ◌+◌, ◌*◌, ◌≤◌, leb, length};
 ghost use Rattle.model.specs.Count.{count};
 ghost use Rattle.cover_text.specs.Text.{member_lines, member_line, report_text};

@@ -1,5 +1,6 @@
 // The program `cover` as a function from the bytes of its input to the bytes of its output.
 #![tactic(auto)]
+
 ghost use Rattle.std.specs.Prelude.{◌≡◌, ℕ, ◌+◌, ◌*◌, ◌≤◌, length, get_or};
 ghost use Rattle.model.specs.Graph.{row as levels_row};
 ghost use Rattle.model.specs.Layout.{mark_places, graph};

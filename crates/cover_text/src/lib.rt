@@ -1,5 +1,6 @@
 // Writers of text: each stores its text from the place `at` on, and answers the place after it.
 #![tactic(auto)]
+
 ghost use Rattle.std.specs.Prelude.{[], ◌∷◌, ◌++◌, ◌+◌, ◌≤◌, length};
 ghost use Rattle.cover_text.specs.Text.{decimal, refusal_line, first_line, node_line};
 ghost use Rattle.cover_text.specs.Write.{Wrote};

@@ -1,5 +1,6 @@
 // A crowd table: the numbers 16 to 18, and the limits of the band that a guest count falls in. All of it over the table's words, four a band.
 #![tactic(auto)]
+
 ghost use Rattle.std.specs.Prelude.{◌≡◌, ◌&&◌, ◌||◌, ℕ, suc, ◌-◌, ◌≤◌, ◌<◌, ltb, leb};
 ghost use Rattle.model.specs.declared.Bands.{Bands as Table};
 ghost use Rattle.model.specs.Count.{some, lowest};

@@ -1,6 +1,7 @@
 // The frames that the replay programs read, as reference/README.md lays them out: the words of a frame by their place, its head and messages, and
 // a line of text for each call.
 #![tactic(auto)]
+
 ghost use Rattle.std.specs.Prelude.{◌≤◌, ◌<◌};
 
 use libc::{STDIN_FILENO, STDOUT_FILENO};

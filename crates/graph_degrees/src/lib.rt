@@ -1,5 +1,6 @@
 // The one reading of a pair table: its pairs that count fill the dense tables of clearances, and the degrees of the operators and of the rides.
 #![tactic(auto)]
+
 ghost use Rattle.std.specs.Prelude.{◌≡◌, Bool, ◌&&◌, ℕ, ◌+◌, ◌≤◌, ◌<◌, eqb, length, get_or};
 ghost use Rattle.model.specs.Count.{bit};
 ghost use Rattle.model.specs.Graph.{Graph, marked, present as is_present};

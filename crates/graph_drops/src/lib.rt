@@ -1,5 +1,6 @@
 // Nodes that fall short, found by two bytes each, a degree and a limit, and dropped.
 #![tactic(auto)]
+
 ghost use Rattle.std.specs.Prelude.{◌≡◌, List, ℕ, ◌+◌, ◌<◌, ◌≤◌, T, length, get_or, set};
 ghost use Rattle.model.specs.Count.{count, lowest};
 ghost use Rattle.model.specs.Graph.{Graph, marked};

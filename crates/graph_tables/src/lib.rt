@@ -1,5 +1,6 @@
 // A row of a dense table of clearances, subtracted from degrees.
 #![tactic(auto)]
+
 ghost use Rattle.std.specs.Prelude.{◌≡◌, ℕ, ◌-◌, ◌<◌, ◌≤◌, length, get_or};
 
 // Subtracts a row of a table from the degrees.

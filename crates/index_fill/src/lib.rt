@@ -1,5 +1,6 @@
 // The index: all rows, each compared with the old one and stored.
 #![tactic(auto)]
+
 ghost use Rattle.std.specs.Prelude.{◌≡◌, ℕ, ◌+◌, ◌*◌, ◌<◌, ◌≤◌, length, get_or};
 ghost use Rattle.model.specs.Graph.{row as levels_row, index_of};
 ghost use Rattle.model.specs.Layout.{over, counting_graph, mark_places, index_places, differing};

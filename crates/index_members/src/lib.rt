@@ -1,5 +1,6 @@
 // Who is in a cover (alpha, beta), by levels: the row that is read, and the least level with which a node is in.
 #![tactic(auto)]
+
 ghost use Rattle.std.specs.Prelude.{◌≡◌};
 ghost use Rattle.model.specs.Graph.{row_for};
 ghost use Rattle.index_members.specs.Members.{least_level};

@@ -1,5 +1,6 @@
 // One row of the index, from the dense tables of clearances.
 #![tactic(auto)]
+
 ghost use Rattle.std.specs.Prelude.{◌≡◌, ◌+◌, ◌≤◌, length};
 ghost use Rattle.model.specs.Graph.{row as levels_row};
 ghost use Rattle.graph_tables.specs.Table.{table_graph};

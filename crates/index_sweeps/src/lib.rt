@@ -1,5 +1,6 @@
 // One side of the clearance graph swept: its nodes that fall short of a limit are removed, and the degrees of the other side fall.
 #![tactic(auto)]
+
 ghost use Rattle.std.specs.Prelude.{◌<◌, length};
 ghost use Rattle.index_sweeps.specs.Sweep.{Side, SideVisited, SideSwept};
 

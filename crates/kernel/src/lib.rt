@@ -1,5 +1,6 @@
 // The cover under a list of limits as C functions, for the benchmark and the differential run. The board's library has none of them.
 #![tactic(auto)]
+
 ghost use Rattle.std.specs.Prelude.{◌≡◌, Bool, ℕ, ◌≤◌, length};
 ghost use Rattle.model.specs.Graph.{Graph, cover_under};
 ghost use Rattle.model.specs.Layout.{mark_places, over};

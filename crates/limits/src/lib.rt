@@ -1,5 +1,6 @@
 // The limits of a peel or a cover: one word for each node, as marks lie, operators first and then rides; and the limits of those marked in bytes.
 #![tactic(auto)]
+
 ghost use Rattle.std.specs.Prelude.{◌≡◌, true, false, ℕ, ◌+◌, ◌-◌, ◌≤◌, ◌<◌, min, eqb, length, get_or};
 ghost use Rattle.model.specs.Graph.{present, ride_limit};
 ghost use Rattle.model.specs.Layout.{mark_places};

@@ -1,5 +1,6 @@
 // The cover under a list of limits, over dense tables: sweeps drop whoever falls short, until nobody does.
 #![tactic(auto)]
+
 ghost use Rattle.std.specs.Prelude.{◌≡◌, ℕ, ◌+◌, ◌≤◌, ◌<◌, T, length};
 ghost use Rattle.model.specs.Graph.{Graph, settled, cover_under};
 ghost use Rattle.model.specs.Layout.{mark_places, over};

@@ -1,6 +1,7 @@
 // Covers from pair arrays: the cover under a list of limits; that of those present under limits for operators and rides, own minimums included, with
 // its counts; and what a refused cover answers.
 #![tactic(auto)]
+
 ghost use Rattle.std.specs.Prelude.{◌≡◌, Bool, ℕ, ◌≤◌, ◌<◌, length, get_or};
 ghost use Rattle.model.specs.Graph.{cover_under, own_limits};
 ghost use Rattle.model.specs.Layout.{mark_places, over};

@@ -1,5 +1,6 @@
 // A message entered: its numbers from 7 on, its stamp and revision, its pair or word, and the number of pairs. No word of the index is read or written.
 #![tactic(auto)]
+
 ghost use Rattle.std.specs.Prelude.{◌≡◌, List, ℕ, ◌≤◌};
 ghost use Rattle.model.specs.Layout.{lent};
 ghost use Rattle.refusal_message.specs.Room.{Room};

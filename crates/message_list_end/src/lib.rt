@@ -1,5 +1,6 @@
 // The end of a message list: after its last turn the index is filled, if a message was taken.
 #![tactic(auto)]
+
 ghost use Rattle.std.specs.Prelude.{◌≡◌, ◌<◌, ◌≤◌, length};
 ghost use Rattle.model.specs.Count.{some};
 ghost use Rattle.model.specs.Layout.{mark_places, index_places, counting_graph};

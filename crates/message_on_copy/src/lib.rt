@@ -1,5 +1,6 @@
 // A message taken on a copy of the board.
 #![tactic(auto)]
+
 ghost use Rattle.std.specs.Prelude.{◌≡◌};
 ghost use Rattle.model.specs.Layout.{parts, lent, copied};
 ghost use Rattle.model.specs.Refusal.{preview_refusal};

@@ -1,5 +1,6 @@
 // Whether a message is later than the last of its pair, operator or ride: by the stamp, the revision, and whether each gives.
 #![tactic(auto)]
+
 ghost use Rattle.std.specs.Prelude.{◌≡◌};
 ghost use Rattle.model.specs.Count.{bit};
 ghost use Rattle.model.specs.Contents.{giving, later, entry};

@@ -1,5 +1,6 @@
 // A message that is not refused, taken: entered, and the index filled anew.
 #![tactic(auto)]
+
 ghost use Rattle.std.specs.Prelude.{◌≡◌};
 ghost use Rattle.model.specs.Layout.{lent};
 ghost use Rattle.model.specs.Refusal.{message_refusal};

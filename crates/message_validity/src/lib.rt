@@ -1,5 +1,6 @@
 // The numbers of documents 01 and 02 of a message by itself: 7 to 9, 14 and 15.
 #![tactic(auto)]
+
 ghost use Rattle.std.specs.Prelude.{◌≡◌};
 ghost use Rattle.model.specs.Contents.{slot};
 ghost use Rattle.model.specs.Refusal.{refused_8, unused, first_number, valid_cases};

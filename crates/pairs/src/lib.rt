@@ -1,5 +1,6 @@
 // The pair arrays: the check of their order and range, and the place of a pair.
 #![tactic(auto)]
+
 ghost use Rattle.std.specs.Prelude.{◌≡◌, false, not, ◌&&◌, ◌||◌, ◌<◌, ◌≤◌, ltb, length};
 ghost use Rattle.model.specs.Count.{bit, count};
 ghost use Rattle.model.specs.Layout.{pair_at, listed};

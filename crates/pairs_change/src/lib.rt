@@ -1,5 +1,6 @@
 // The pair arrays after a taken message: its pair is added or removed where needed, and zeros stand behind the last pair.
 #![tactic(auto)]
+
 ghost use Rattle.std.specs.Prelude.{◌≡◌, true, ◌+◌, ◌<◌, ◌≤◌, length};
 ghost use Rattle.model.specs.Layout.{pair_places, graph};
 ghost use Rattle.pairs.specs.Accepted.{AcceptedPairs};

@@ -1,5 +1,6 @@
 // One pair array: a word inserted or removed, and those behind it moved by one place.
 #![tactic(auto)]
+
 ghost use Rattle.std.specs.Prelude.{◌+◌, ◌<◌, ◌≤◌, length};
 ghost use Rattle.pairs_shift.specs.Shift.{Inserted, Removed, Shifted};
 

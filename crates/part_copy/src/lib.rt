@@ -1,5 +1,6 @@
 // A board copied to spare memory.
 #![tactic(auto)]
+
 ghost use Rattle.std.specs.Prelude.{◌≡◌, false};
 ghost use Rattle.model.specs.Layout.{parts, lent, copied};
 ghost use Rattle.model.specs.Refusal.{board_short};

@@ -1,6 +1,7 @@
 // The presence stamps, revisions and words of operators and rides, as marks lie: those of a build, the place of a message's operator or ride, whether
 // the message is later than its last, and the store of a taken message.
 #![tactic(auto)]
+
 ghost use Rattle.std.specs.Prelude.{◌≡◌, List, ℕ, ◌≤◌, ◌<◌, length, set};
 ghost use Rattle.model.specs.Count.{bit};
 ghost use Rattle.model.specs.Layout.{lent, mark_places};

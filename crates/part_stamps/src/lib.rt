@@ -1,6 +1,7 @@
 // The stamps and revisions of pairs: a pair's place among them, the stamps of a build, whether a listed pair has none, whether a message is later
 // than its pair's last, and the store of a taken message.
 #![tactic(auto)]
+
 ghost use Rattle.std.specs.Prelude.{◌≡◌, List, ℕ, ◌*◌, ◌<◌, ◌≤◌, length, get_or, set};
 ghost use Rattle.model.specs.Layout.{lent, pair_places, over, listed, graph};
 ghost use Rattle.model.specs.Contents.{pair_place};

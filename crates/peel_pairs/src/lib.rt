@@ -1,5 +1,6 @@
 // The peel of a pair table: its pairs are read, its limits filled, and marks are cleared.
 #![tactic(auto)]
+
 ghost use Rattle.std.specs.Prelude.{◌≡◌, List, ℕ, ◌+◌, ◌≤◌, length};
 ghost use Rattle.model.specs.Count.{bit};
 ghost use Rattle.model.specs.Graph.{Graph, settled};

@@ -1,5 +1,6 @@
 // The run of a peel: its state travels by value with the lent marks, and each step drops the lowest node that falls short and hands on the next state.
 #![tactic(auto)]
+
 ghost use Rattle.std.specs.Prelude.{◌≡◌, ℕ, ◌+◌, ◌<◌, ◌≤◌};
 ghost use Rattle.model.specs.Graph.{Graph};
 ghost use Rattle.model.specs.Layout.{mark_places};

@@ -1,5 +1,6 @@
 // The marks and counts of one row of the index, or of a row of zeros.
 #![tactic(auto)]
+
 ghost use Rattle.std.specs.Prelude.{◌+◌, ◌≤◌, length, replicate};
 ghost use Rattle.query_marks.specs.Marks.{RowMarked};
 

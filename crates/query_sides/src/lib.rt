@@ -1,5 +1,6 @@
 // One side of a row: the marks of its levels, and their count.
 #![tactic(auto)]
+
 ghost use Rattle.std.specs.Prelude.{◌≡◌, ◌&&◌, List, ℕ, ◌<◌, ◌≤◌, ltb, eqb, length, replicate};
 ghost use Rattle.model.specs.Count.{bit};
 ghost use Rattle.query_sides.specs.Marked.{Marked};

@@ -1,5 +1,6 @@
 // The numbers of documents 01 and 02 of a message, a preview and a message list: the first that applies, 0 if none does.
 #![tactic(auto)]
+
 ghost use Rattle.std.specs.Prelude.{◌≡◌, Bool, false, ◌||◌, List, ◌++◌, ℕ, ◌≤◌, length};
 ghost use Rattle.model.specs.Layout.{parts, lent, pair_places};
 ghost use Rattle.model.specs.Refusal.{refused_3, refused_10, board_short, first_number, board_cases, valid_cases, message_cases};

@@ -1,5 +1,6 @@
 // Document 01's numbers of a peel, and of a cover found by one: the lowest that applies, 0 if none does.
 #![tactic(auto)]
+
 ghost use Rattle.std.specs.Prelude.{◌≡◌, ◌≤◌, length};
 ghost use Rattle.model.specs.Layout.{mark_places};
 ghost use Rattle.model.specs.Refusal.{refused_12, first_number, peel_short, peel_cases, peel_refusal};

@@ -1,5 +1,6 @@
 // Document 01's numbers of a pair table, a build and a query: the lowest that applies, 0 if none does.
 #![tactic(auto)]
+
 ghost use Rattle.std.specs.Prelude.{◌≡◌, Bool, false, List, ◌∷◌, ℕ, ◌≤◌, length};
 ghost use Rattle.model.specs.Layout.{lent, pair_places};
 ghost use Rattle.model.specs.Refusal.{board_short, first_number, table_cases, build_refusal, query_refusal};

@@ -1,5 +1,6 @@
 // Replays the calls on standard input, and writes what each answered and left (reference/README.md).
 #![tactic(auto)]
+
 use replay_memory::Lent;
 
 // Makes the call of a frame, writes its answer's numbers, and answers the checksum of the head where a call changes it, or 0.

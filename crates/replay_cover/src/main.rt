@@ -1,5 +1,6 @@
 // Replays inputs of the program `cover`, and writes the output of each (reference/README.md).
 #![tactic(auto)]
+
 ghost use Rattle.std.specs.Prelude.{◌≤◌, ◌<◌};
 
 use libc::{STDIN_FILENO, STDOUT_FILENO};
@@ -37,7 +38,7 @@ fn least(a: usize, b: usize) -> usize
 
 // Reads so many bytes to the start of the buffer, of those that there are, and answers how many.
 fn read(buffer: &mut [u8], bytes: usize) -> usize
-    ensures* { do ⌜ result ≤ (← (⟦buffer.len()⟧).entry) ⌝ }
+    ensures { result ≤ length buffer.new }
 {
     let room = least(bytes, buffer.len());
     least(io::read_full(STDIN_FILENO, &mut buffer[0..room]), room)

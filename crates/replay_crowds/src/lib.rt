@@ -1,5 +1,6 @@
 // The calls of a frame that take a crowd table: the look-up and the cover for a guest count.
 #![tactic(auto)]
+
 use model::{Band, Bands};
 use replay_memory::Lent;
 

@@ -1,5 +1,6 @@
 // Replays deliveries of messages (reference/README.md).
 #![tactic(auto)]
+
 fn main() {
     replay::run();
 }

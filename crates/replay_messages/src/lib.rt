@@ -1,5 +1,6 @@
 // The message and message list calls of a frame, sent through `call_message::deliver`: a message is delivered as a list of one.
 #![tactic(auto)]
+
 use message_taking::Delivered;
 use replay_memory::Lent;
 

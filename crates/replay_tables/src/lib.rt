@@ -1,6 +1,7 @@
 // The calls of a frame that send no message and take no crowd table: build, query, peel and the cover with minimums, by the functions behind the
 // exported calls.
 #![tactic(auto)]
+
 use frames::head;
 use replay_memory::Lent;
 

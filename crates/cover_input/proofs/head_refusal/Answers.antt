@@ -1,0 +1,32 @@
+-- `cover_input::head_refusal` meets its contract: 1, 2 and 4 of a head whose lengths aren't asked, and then 13.
+-- k is the number that `head_number` gives where nothing is said to be too short
+use borrow.Author.Rules.{rules}
+use mathlib.Core.Path.{◌≡◌, refl, sym, ap, ◌∙◌}
+use mathlib.Core.Logic.{◌≢◌}
+use mathlib.Core.Bool.{Bool, false, not}
+use mathlib.Core.List.{List, [], ◌∷◌, ◌++◌}
+use Prim.Native.Nat.{ℕ, ◌+◌, ◌*◌, ◌≤◌}
+use native.Mathlib.Omega.{arith}
+use lib.Dec.{ltb, eqb}
+use borrow.Author.Tests.{eq-eqb, ne_eqb}
+use Rattle.model.specs.declared.Head.{Head}
+use Rattle.model.specs.Refusal.{refused_1, refused_2, refused_4, first_number}
+use Rattle.model.proofs.Chain.{first_skip, first_same, last_here, last_skip, not_less, Positive, front_is, behind_is}
+use Rattle.refusal_table.specs.Cases.{head_cases}
+use Rattle.cover_input.specs.Input.{size_cases}
+use Rattle.cover_input.proofs.head_refusal.Goals as goal
+
+-- `cover_input::head_refusal` meets its contract: 1, 2 and 4 of a head whose lengths aren't asked, and then 13.
+-- k is the number that `head_number` gives where nothing is said to be too short
+module _ (size : ℕ) (h : Head) (long : 6 ≤ size) (k : ℕ) (e : k ≡ first_number (head_cases h false)) where
+  abbrev sizes : List (ℕ × Bool)
+  sizes = (1, refused_1 h) ∷ (2, refused_2 h) ∷ (4, refused_4 h) ∷ []
+
+pub returns-then-number-ne0 : goal.returns-then-number-ne0
+returns-then-number-ne0 c = by-head c.args.size c.args.h c.requires _ c.head_number-number.ensures (omega arith)
+
+pub returns-then-size-h : goal.returns-then-size-h
+returns-then-size-h c = last_here 13 _ (ap not (ne_eqb _ _ c.if-size-h.true)) ∙ by_size c.args.size c.args.h c.requires _ after-head-number.head-number.ensures (omega arith)
+
+pub returns : goal.returns
+returns c = last_skip 13 _ (ap not (eq-eqb _ _ c.if-size-h.false)) ∙ by_size c.args.size c.args.h c.requires _ after-head-number.head-number.ensures (omega arith)

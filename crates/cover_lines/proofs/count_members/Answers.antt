@@ -1,0 +1,34 @@
+-- `cover_lines::count_members` meets its contract. The invariant: those of the first i nodes are counted.
+use borrow.Author.Rules.{rules}
+use mathlib.Core.Path.{◌≡◌, ap}
+use mathlib.Core.Bool.{Bool}
+use mathlib.Core.Logic.{⊎_elim}
+use Prim.Native.Nat.{ℕ, ◌≤◌, ◌-◌}
+use native.Mathlib.Omega.{arith}
+use borrow.Author.Tests.{le-leb, lt-leb}
+use Rattle.model.specs.Count.{bit, count}
+use Rattle.model.proofs.Count.{count_more}
+use Rattle.index_members.specs.Members.{level_at, member_at}
+use Rattle.cover_lines.proofs.count_members.Goals as goal
+
+pub loop-i-init : goal.loop-i-init
+unfolding count
+loop-i-init c = search rules
+
+pub loop-i-preserved : goal.loop-i-preserved
+loop-i-preserved c =
+    let a = c.args in
+    let l = c.loop-i in
+    let p : ℕ → Bool = member_at a.least a.levels.now a.first in
+    let word : ℕ = level_at a.levels.now a.first l.i in
+    ⊎_elim
+    (λ w. omega (arith, w.1, l.invariant.2, count_more p l.i, ap bit (le-leb a.least word w.0.true)))
+    (λ w. omega (arith, w.1, l.invariant.2, count_more p l.i, ap bit (lt-leb a.least word w.0.false)))
+    c.if-least-levels.branch
+
+pub returns : goal.returns
+returns c =
+    let a = c.args in
+    let l = c.loop-i in
+    let e : a.nodes ≡ l.i = omega arith in
+    rw e l.invariant.2

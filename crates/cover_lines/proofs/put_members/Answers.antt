@@ -1,0 +1,44 @@
+-- `cover_lines::put_members` meets its contract. The invariant: the lines of the first i nodes are written.
+-- one node more
+use borrow.Author.Rules.{rules}
+use mathlib.Core.Path.{◌≡◌, ◌∙◌}
+use mathlib.Core.Bool.{Bool}
+use mathlib.Core.List.{List}
+use Prim.Native.Nat.{ℕ, suc, ◌≤◌, ◌+◌, ◌*◌, ◌-◌}
+use native.Mathlib.Numerals.{add-one}
+use native.Mathlib.Omega.{arith}
+use lib.ListN.{length}
+use Rattle.cover_text.specs.Text.{member_line, member_lines}
+use Rattle.cover_text.specs.Write.{Wrote}
+use Rattle.index_members.specs.Members.{level_at, member_at}
+use Rattle.cover_text.proofs.Write.{wrote_append, wrote_most}
+use Rattle.cover_lines.proofs.put_members.Goals as goal
+
+-- `cover_lines::put_members` meets its contract. The invariant: the lines of the first i nodes are written.
+-- one node more
+module _ {l m n : List ℕ} {at p end : ℕ} (name : List ℕ) (inside : ℕ → Bool) (level : ℕ → ℕ) (i : ℕ) where
+  more :
+      Wrote l at (member_lines name inside level i) (21 * i) m p →
+      Wrote m p (member_line name (inside i) i (level i)) 21 n end →
+      Wrote l at (member_lines name inside level (i + 1)) (21 * (i + 1)) n end
+  unfolding member_lines
+  more v w = rw (add-one i) (wrote_most (21 * suc i) (omega arith) (wrote_append v w))
+
+pub loop-i-init : goal.loop-i-init
+unfolding member_lines
+loop-i-init c = search rules
+
+pub loop-i-preserved : goal.loop-i-preserved
+loop-i-preserved c =
+    let l = c.loop-i in
+    let a = c.args in (
+      omega arith,
+      c.put_member-end.auto.0 ∙ l.invariant.1,
+      more a.name.now (member_at a.least a.levels.now a.first) (level_at a.levels.now a.first) l.i l.invariant.2 c.put_member-end.ensures,
+    )
+
+pub returns : goal.returns
+returns c =
+    let a = c.args in
+    let e : a.nodes ≡ c.loop-i.i = omega arith in
+    rw e c.loop-i.invariant.2

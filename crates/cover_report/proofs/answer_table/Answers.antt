@@ -1,0 +1,65 @@
+-- `cover_report::answer_table` meets its contract.
+-- what the test of the pair arrays says of number 5
+use borrow.Author.Rules.{rules}
+use mathlib.Core.Path.{◌≡◌, sym, subst, ◌∙◌}
+use mathlib.Core.Bool.{Bool, true, false, not}
+use mathlib.Core.List.{List}
+use Prim.Native.Nat.{ℕ, ◌+◌, ◌-◌, min}
+use native.Mathlib.Omega.{arith}
+use native.Mathlib.Decide.{dec_lt}
+use lib.Dec.{T}
+use lib.ListN.{get_or, take, replicate, length-take, get_or-eq_default}
+use lib.Seq.{get_or-take}
+use borrow.Author.Tests.{not-true, not-false}
+use Rattle.model.specs.Refusal.{refused_5}
+use Rattle.model.proofs.Store.{getD_zeros}
+use Rattle.cover_report.proofs.Report.{table_5, table_cover}
+use Rattle.cover_text.proofs.Write.{wrote_text, wrote_most}
+use Rattle.cover_report.proofs.answer_table.Goals as goal
+
+-- `cover_report::answer_table` meets its contract.
+-- what the test of the pair arrays says of number 5
+module _ (refused up : Bool) (e : up ≡ not refused) where
+  refuses : not up ≡ true → refused ≡ true
+  refuses t = not-false refused (sym e ∙ not-true up t)
+
+-- the first places of a list of zeros
+take-zeros : (n : ℕ) (l : List ℕ) → ((k : ℕ) → get_or l k 0 ≡ 0) → (k : ℕ) → get_or (take n l) k 0 ≡ 0
+take-zeros n l z k =
+    elim (dec_lt k n) [
+      | yes h ↦ get_or-take n l k 0 h ∙ z k
+      | no h ↦ get_or-eq_default (take n l) 0 (omega (arith, length-take n l))
+    ]
+
+pub returns-then-not-ascending : goal.returns-then-not-ascending
+returns-then-not-ascending c =
+    let a = c.args in
+    wrote_most 5490 (omega arith)
+    (wrote_text
+    (table_5 a.h a.operators.now a.rides.now a.alpha a.beta (refuses _ _ c.ascending.ensures c.if-not-ascending.true))
+    c.put_refusal.ensures)
+
+pub put_lines-requires : goal.put_lines-requires
+put_lines-requires c =
+    let a = c.args in
+    let nodes = a.h.operators + a.h.rides - 0 in (
+      (
+        record {
+          few_operators = c.requires.0.few_operators;
+          few_rides = c.requires.0.few_rides;
+          operators_long = omega arith;
+          rides_long = omega arith;
+          ordered = subst T (accepts (refused_5 a.h a.operators.now a.rides.now) _ c.ascending.ensures c.if-not-ascending.false);
+        },
+        length-take nodes (replicate 260 0) ∙ (let e : min nodes 260 ≡ a.h.operators + a.h.rides = omega arith in e),
+        omega arith,
+      ),
+      take-zeros nodes (replicate 260 0) (getD_zeros 260),
+    )
+
+pub returns : goal.returns
+returns c =
+    let a = c.args in
+    wrote_text
+    (table_cover a.h a.operators.now a.rides.now a.alpha a.beta (accepts _ _ c.ascending.ensures c.if-not-ascending.false))
+    c.put_lines.ensures

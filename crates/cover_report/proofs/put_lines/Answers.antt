@@ -1,0 +1,22 @@
+-- `cover_report::put_lines` meets its contract.
+use borrow.Author.Rules.{rules}
+use mathlib.Core.Path.{ap, ◌∙◌}
+use Prim.Native.Nat.{ℕ}
+use native.Mathlib.Omega.{arith}
+use Rattle.model.specs.Graph.{row}
+use Rattle.model.specs.Layout.{graph}
+use Rattle.cover_report.proofs.Report.{report_row}
+use Rattle.cover_text.proofs.Write.{wrote_text}
+use Rattle.cover_report.proofs.put_lines.Goals as goal
+
+-- `cover_report::put_lines` meets its contract.
+pub fill_levels-requires : goal.fill_levels-requires
+fill_levels-requires c =
+    ((c.requires.accepted_pairs.0, omega (arith, c.row.ensures), c.requires.accepted_pairs.1), c.requires.by_index)
+
+pub returns : goal.returns
+returns c =
+    let a = c.args in
+    wrote_text
+    (report_row a.h a.operators.now a.rides.now a.alpha a.beta _ (c.fill_levels.ensures ∙ ap (λ (k : ℕ). row (graph a.h a.operators.now a.rides.now) k) c.row.ensures))
+    c.put_cover.ensures

@@ -1,0 +1,16 @@
+-- `graph_degrees::present` meets its contract. The loop's invariant: the first x bytes are written.
+use borrow.Author.Rules.{rules}
+use mathlib.Core.Path.{◌≡◌, refl}
+use Prim.Native.Nat.{ℕ, ◌-◌, ◌≤◌, ◌<◌}
+use native.Mathlib.Omega.{arith}
+use lib.ListN.{length, get_or, length-set}
+use Rattle.model.specs.Count.{bit}
+use Rattle.model.specs.Graph.{present}
+use Rattle.model.proofs.Store.{stored}
+use Rattle.graph_degrees.proofs.present.Given as goal
+
+abbrev pub invariant-loop-x : goal.invariant-loop-x
+invariant-loop-x l = (l.x ≤ l.nodes) × (length l.here ≡ 260) × ((k : ℕ) → k < l.x → get_or l.here k 0 ≡ bit (present l.presence k))
+
+abbrev pub decreases-loop-x : goal.decreases-loop-x
+decreases-loop-x l = l.nodes - l.x

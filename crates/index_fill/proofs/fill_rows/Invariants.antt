@@ -1,0 +1,31 @@
+-- `index_fill::fill_rows` meets its contract. The loop's invariant: the first a rows are stored, and differ counts their words that differ.
+use borrow.Author.Rules.{rules}
+use lib.ListN.{take}
+use mathlib.Core.Path.{ap₂}
+use Rattle.model.proofs.Count.{length_values}
+use Rattle.index_fill.proofs.Stored.{index_done, differ_done, index_small}
+use Rattle.model.proofs.Differ.{differing_none, differing_le}
+use Rattle.graph_tables.proofs.Place.{row_inside}
+use Rattle.index_fill.proofs.Index.{row_values}
+use borrow.Rule.Slice.PartMut.{same_len_mid}
+use Prim.Native.Nat.{ℕ, suc, ◌+◌, ◌*◌, ◌≤◌, ◌-◌}
+use mathlib.Core.Path.{◌≡◌, refl, sym, ap, ◌∙◌, subst}
+use mathlib.Core.List.{◌++◌}
+use native.Mathlib.Omega.{arith}
+use lib.ListN.{length, drop}
+use Rattle.model.specs.Count.{rows}
+use Rattle.model.specs.Graph.{level}
+use Rattle.model.specs.Layout.{differing}
+use Rattle.graph_tables.specs.Table.{table_graph}
+use Rattle.index_fill.proofs.Stored.{stored_row, differing_row, no_rows}
+use Rattle.index_fill.proofs.fill_rows.Given as goal
+
+abbrev pub invariant-loop-a : goal.invariant-loop-a
+invariant-loop-a l = (l.a ≤ l.m) ×
+    (length l.row ≡ l.w) ×
+    (length l.index ≡ length l.initial.index) ×
+    (l.index ≡ rows l.a l.w (λ b x. level (table_graph l.n l.m l.by_operator) (suc b) x) ++ drop (l.a * l.w) l.initial.index) ×
+    (l.differ ≡ differing (l.a * l.w) l.initial.index (rows l.m l.w (λ b x. level (table_graph l.n l.m l.by_operator) (suc b) x)))
+
+abbrev pub decreases-loop-a : goal.decreases-loop-a
+decreases-loop-a l = l.m - l.a

@@ -1,0 +1,21 @@
+-- `limits_cover::sweep` meets its contract. The loop's invariant: the nodes below x are swept.
+use borrow.Author.Rules.{rules}
+use mathlib.Core.Path.{◌≡◌, refl}
+use Prim.Native.Nat.{ℕ, ◌+◌, ◌-◌, ◌≤◌}
+use native.Mathlib.Omega.{arith}
+use lib.ListN.{length}
+use Rattle.model.specs.Graph.{Graph, nodes, marked, short}
+use Rattle.model.proofs.Count.{bit_le, count_le}
+use Rattle.graph_tables.specs.Table.{Tables}
+use Rattle.graph_drops.specs.Drop.{Held}
+use Rattle.limits_cover.specs.Cover.{Swept}
+use Rattle.limits_cover.proofs.Sweeps.{swept_none, swept_more}
+use Rattle.limits_cover.proofs.sweep.Given as goal
+
+abbrev pub invariant-loop-x : goal.invariant-loop-x
+invariant-loop-x l = (l.x ≤ l.end) × (l.end ≡ l.operators + l.rides) × (length l.marks ≡ length l.initial.marks) ×
+    ((g : Graph) (limit : ℕ → ℕ) → Tables g l.by_operator l.by_ride → Held g limit l.operators l.rides l.initial.degrees l.initial.limits l.initial.marks →
+    Swept g limit l.x l.initial.marks l.dropped l.marks × Held g limit l.operators l.rides l.degrees l.limits l.marks)
+
+abbrev pub decreases-loop-x : goal.decreases-loop-x
+decreases-loop-x l = l.end - l.x

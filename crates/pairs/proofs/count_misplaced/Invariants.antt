@@ -1,0 +1,16 @@
+-- `pairs::count_misplaced` meets its contract. The loop's invariant: sum counts those of the first i pairs that are misplaced.
+use borrow.Author.Rules.{rules}
+use mathlib.Core.Path.{◌≡◌, refl, ap}
+use Prim.Native.Nat.{◌+◌, ◌-◌, ◌≤◌}
+use native.Mathlib.Omega.{arith}
+use Rattle.model.specs.Count.{bit, count}
+use Rattle.model.specs.Refusal.{misplaced}
+use Rattle.model.proofs.Count.{count_le}
+use Rattle.pairs.proofs.Order.{misplaced_more}
+use Rattle.pairs.proofs.count_misplaced.Given as goal
+
+abbrev pub invariant-loop-i : goal.invariant-loop-i
+invariant-loop-i l = (l.pairs ≡ l.head.pairs) × (1 ≤ l.i) × (l.i ≤ l.pairs) × (l.sum ≡ count l.i (misplaced l.head l.operators l.rides))
+
+abbrev pub decreases-loop-i : goal.decreases-loop-i
+decreases-loop-i l = l.pairs - l.i

@@ -1,0 +1,19 @@
+-- `pairs_shift::insert` meets its contract. The loop's invariant: the words below i are those after the insertion, and the carried word is the next.
+use borrow.Author.Rules.{rules}
+use mathlib.Core.Path.{◌≡◌, refl, sym, ap, ◌∙◌}
+use Prim.Native.Nat.{ℕ, ◌+◌, ◌≤◌, ◌-◌}
+use native.Mathlib.Omega.{arith}
+use lib.ListN.{length, get_or, length-set}
+use Rattle.arrays.proofs.Storing.{Storing, storing_start, storing_more}
+use Rattle.pairs_shift.proofs.Words.{inserted_at, inserted_below, inserted_here, inserted_above}
+use Rattle.pairs_shift.proofs.insert.Given as goal
+
+abbrev pub invariant-loop-i : goal.invariant-loop-i
+invariant-loop-i l = (l.place ≤ l.i) ×
+    (l.i ≤ l.n + 1) ×
+    (length l.array ≡ length l.initial.array) ×
+    (l.carried ≡ inserted_at l.initial.array l.place l.word l.i) ×
+    Storing (inserted_at l.initial.array l.place l.word) (l.n + 1) l.initial.array l.array l.i
+
+abbrev pub decreases-loop-i : goal.decreases-loop-i
+decreases-loop-i l = l.n + 1 - l.i

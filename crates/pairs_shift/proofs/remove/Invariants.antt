@@ -1,0 +1,18 @@
+-- `pairs_shift::remove` meets its contract. The loop's invariant: the words below i are those after the removal, the others as they came.
+use borrow.Author.Rules.{rules}
+use Prim.Native.Nat.{ℕ, ◌+◌, ◌≤◌, ◌-◌}
+use mathlib.Core.Path.{◌≡◌, refl, sym, ◌∙◌}
+use native.Mathlib.Omega.{arith}
+use lib.ListN.{length, get_or, length-set}
+use Rattle.arrays.proofs.Storing.{Storing, storing_start, storing_more}
+use Rattle.pairs_shift.proofs.Words.{removed_at, removed_below, removed_above}
+use Rattle.pairs_shift.proofs.remove.Given as goal
+
+abbrev pub invariant-loop-i : goal.invariant-loop-i
+invariant-loop-i l = (l.place ≤ l.i) ×
+    (l.i + 1 ≤ l.n) ×
+    (length l.array ≡ length l.initial.array) ×
+    Storing (removed_at l.initial.array l.place) l.n l.initial.array l.array l.i
+
+abbrev pub decreases-loop-i : goal.decreases-loop-i
+decreases-loop-i l = l.n - l.i

@@ -1,0 +1,17 @@
+-- `query_sides::mark_present` meets its contract. The loop's invariant: the marks below i are set and counted.
+use borrow.Author.Rules.{rules}
+use mathlib.Core.Path.{◌≡◌, refl, sym, ap}
+use mathlib.Core.Bool.{Bool, true, ◌&&◌}
+use Prim.Native.Nat.{◌≤◌, ◌-◌}
+use native.Mathlib.Omega.{arith}
+use borrow.Author.Tests.{le-leb}
+use lib.ListN.{length, get_or, length-set}
+use Rattle.model.specs.Graph.{present}
+use Rattle.query_sides.proofs.Marked.{Upto, upto_none, upto_more, upto_few, upto_marked}
+use Rattle.query_sides.proofs.mark_present.Given as goal
+
+abbrev pub invariant-loop-i : goal.invariant-loop-i
+invariant-loop-i l = (l.i ≤ l.n) × (l.n ≡ length l.initial.marks) × (length l.marks ≡ length l.initial.marks) × Upto (λ k. present l.presence k && true) l.i l.count l.marks
+
+abbrev pub decreases-loop-i : goal.decreases-loop-i
+decreases-loop-i l = l.n - l.i
