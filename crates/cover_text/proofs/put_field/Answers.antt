@@ -1,5 +1,4 @@
 -- `cover_text::put_field` meets its contract.
-use borrow.Author.Rules.{rules}
 use Rattle.cover_text.proofs.Write.{wrote_byte, wrote_append}
 use Rattle.cover_text.proofs.put_field.Goals as goal
 

@@ -1,5 +1,4 @@
 -- `cover_text::put_first` meets its contract.
-use borrow.Author.Rules.{rules}
 use Rattle.cover_text.specs.Text.{first_line}
 use Rattle.cover_text.proofs.Write.{wrote_append}
 use Rattle.cover_text.proofs.put_first.Goals as goal

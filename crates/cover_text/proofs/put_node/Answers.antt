@@ -1,5 +1,4 @@
 -- `cover_text::put_node` meets its contract.
-use borrow.Author.Rules.{rules}
 use native.Mathlib.Omega.{arith}
 use Rattle.cover_text.specs.Text.{node_line}
 use Rattle.cover_text.proofs.Write.{wrote_append, wrote_most}

@@ -1,5 +1,4 @@
 -- `pairs::is_listed` meets its contract: a listed pair stands at its first place.
-use borrow.Author.Rules.{rules}
 use mathlib.Core.Path.{◌∙◌}
 use Rattle.pairs.proofs.Place.{stands_listed}
 use Rattle.pairs.proofs.is_listed.Goals as goal

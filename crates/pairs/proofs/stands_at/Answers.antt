@@ -1,5 +1,4 @@
 -- `pairs::stands_at` meets its contract.
-use borrow.Author.Rules.{rules}
 use native.Mathlib.Omega.{arith}
 use Rattle.pairs.proofs.Place.{stands_past, stands_other, stands_ride}
 use Rattle.pairs.proofs.stands_at.Goals as goal
