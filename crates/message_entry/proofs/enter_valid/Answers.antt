@@ -1,10 +1,7 @@
 -- `message_entry::enter_valid` meets its contract: refused by its number, or entered.
-use borrow.Author.Rules.{rules}
-use mathlib.Core.Path.{◌≡◌, refl, sym, ◌∙◌}
-use mathlib.Core.List.{List}
-use Prim.Native.Nat.{ℕ}
+use mathlib.Core.Path.{◌≡◌, sym, ◌∙◌}
 use native.Mathlib.Omega.{arith}
-use Rattle.model.specs.Layout.{Board, lent}
+use Rattle.model.specs.Layout.{lent}
 use Rattle.refusal_message.proofs.Message.{entry_invalid, entry_10, entry_0}
 use Rattle.message_entry.proofs.Entering.{entered_none, entered_refused}
 use Rattle.message_entry.proofs.enter_valid.Goals as goal

@@ -1,8 +1,7 @@
 -- `refusal_message::list_number` meets its contract.
 -- the board that the call was lent
-use borrow.Author.Rules.{rules}
 use mathlib.Core.Path.{sym, ◌∙◌}
-use Rattle.model.specs.Layout.{Operators, Rides, Stamps, Board, lent}
+use Rattle.model.specs.Layout.{Operators, Rides, Stamps, lent}
 use Rattle.model.specs.Refusal.{refused_3}
 use Rattle.refusal_message.proofs.Message.{either_long, list_of}
 use Rattle.refusal_message.proofs.list_number.Goals as goal

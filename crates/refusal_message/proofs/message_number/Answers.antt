@@ -1,8 +1,7 @@
 -- `refusal_message::message_number` meets its contract.
 -- the board that the call was lent
-use borrow.Author.Rules.{rules}
 use mathlib.Core.Path.{sym, ◌∙◌}
-use Rattle.model.specs.Layout.{Operators, Rides, Stamps, Board, lent}
+use Rattle.model.specs.Layout.{Operators, Rides, Stamps, lent}
 use Rattle.model.proofs.Parts.{not_short}
 use Rattle.refusal_message.proofs.Message.{board_room, message_of}
 use Rattle.refusal_message.proofs.message_number.Goals as goal

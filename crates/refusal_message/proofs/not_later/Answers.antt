@@ -6,7 +6,6 @@ use Rattle.model.proofs.Refusal.{slot_pair, Within, valid_none}
 use Rattle.part_presence.proofs.Presence.{place_within}
 use Rattle.refusal_message.proofs.not_later.Goals as goal
 
--- `refusal_message::not_later` meets its contract: the kind says whose last it is.
 pub not_later-requires : goal.not_later-requires
 not_later-requires c = let a = c.args in
     let r = c.requires.0.1 in

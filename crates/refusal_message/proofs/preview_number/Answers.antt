@@ -1,8 +1,7 @@
 -- `refusal_message::preview_number` meets its contract.
 -- the board that the call was lent
-use borrow.Author.Rules.{rules}
 use mathlib.Core.Path.{sym, ◌∙◌}
-use Rattle.model.specs.Layout.{Operators, Rides, Stamps, parts, Board, lent}
+use Rattle.model.specs.Layout.{Operators, Rides, Stamps, parts, lent}
 use Rattle.model.specs.Refusal.{board_short}
 use Rattle.refusal_message.proofs.Message.{either_long, board_room, preview_of}
 use Rattle.refusal_message.proofs.preview_number.Goals as goal
