@@ -9,7 +9,7 @@ use Rattle.call_peel.proofs.peel.Goals as goal
 
 -- `call_peel::peel` meets its contract: it refuses, or peels over new tables.
 pub returns-then-number-ne0 : goal.returns-then-number-ne0
-returns-then-number-ne0 c = let a = start.args in
+returns-then-number-ne0 c = let a = c.args in
     peel_refused a.head a.operators.now a.rides.now a.presence.now a.minimums.now a.marks.now a.alpha a.beta a.steps _ c.peel_number-number.ensures (omega arith)
 
 pub peel_over-requires : goal.peel_over-requires
@@ -18,5 +18,5 @@ peel_over-requires c = let a = c.args in
     (k.0, k.1, k.2, zero_tables, omega (arith, k.0.few_operators, k.0.few_rides), k.3)
 
 pub returns : goal.returns
-returns c = let a = (lending e).args in
-    peel_done a.head a.operators.now a.rides.now a.presence.now a.minimums.now a.marks.now (none e) a.alpha a.beta a.steps _ _ c.peel_over.ensures
+returns c = let a = c.args in
+    peel_done a.head a.operators.now a.rides.now a.presence.now a.minimums.now a.marks.now ((let q : (let a = c.args in peel_refusal a.head a.operators.now a.rides.now a.presence.now a.minimums.now a.marks.now ≡ 0) = let q = c.peel_number-number in sym q.ensures ∙ (let z : q.result ≡ 0 = omega arith in z) in q)) a.alpha a.beta a.steps _ _ c.peel_over.ensures

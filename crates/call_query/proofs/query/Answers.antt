@@ -11,7 +11,7 @@ use Rattle.call_query.proofs.query.Goals as goal
 
 -- `call_query::query` meets its contract: it refuses, or the index has no such row and the levels are 0, or one row of the index is read.
 pub returns-then-number-ne0 : goal.returns-then-number-ne0
-returns-then-number-ne0 c = let a = start.args in
+returns-then-number-ne0 c = let a = c.args in
     query_refused a.head a.index.now a.presence.now a.marks.now a.alpha a.beta _ c.query_number-number.ensures (omega arith)
 
 pub mark_zeros-requires : goal.mark_zeros-requires

@@ -22,11 +22,12 @@ module _ (size : ℕ) (h : Head) (long : 6 ≤ size) (k : ℕ) (e : k ≡ first_
   abbrev sizes : List (ℕ × Bool)
   sizes = (1, refused_1 h) ∷ (2, refused_2 h) ∷ (4, refused_4 h) ∷ []
 
+
 pub returns-then-number-ne0 : goal.returns-then-number-ne0
 returns-then-number-ne0 c = by-head c.args.size c.args.h c.requires _ c.head_number-number.ensures (omega arith)
 
 pub returns-then-size-h : goal.returns-then-size-h
-returns-then-size-h c = last_here 13 _ (ap not (ne_eqb _ _ c.if-size-h.true)) ∙ by_size c.args.size c.args.h c.requires _ after-head-number.head-number.ensures (omega arith)
+returns-then-size-h c = last_here 13 _ (ap not (ne_eqb _ _ c.if-size-h.true)) ∙ by_size c.args.size c.args.h c.requires _ c.head_number-number.ensures (omega arith)
 
 pub returns : goal.returns
-returns c = last_skip 13 _ (ap not (eq-eqb _ _ c.if-size-h.false)) ∙ by_size c.args.size c.args.h c.requires _ after-head-number.head-number.ensures (omega arith)
+returns c = last_skip 13 _ (ap not (eq-eqb _ _ c.if-size-h.false)) ∙ by_size c.args.size c.args.h c.requires _ c.head_number-number.ensures (omega arith)

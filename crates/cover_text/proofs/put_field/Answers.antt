@@ -7,4 +7,4 @@ use Rattle.cover_text.proofs.put_field.Goals as goal
 pub returns : goal.returns
 returns c =
     let number = c.put_number-end in
-    wrote_append number.ensures (wrote_byte number.new.0 number.result c.args.after)
+    wrote_append number.ensures (wrote_byte number.new.out number.result c.args.after)

@@ -14,4 +14,4 @@ use Rattle.index_fill.proofs.any_row.Goals as goal
 pub returns-then-high-alpha : goal.returns-then-high-alpha
 returns-then-high-alpha c = let a = c.args in
     let v = c.fill in
-    zero_row (table_graph a.n a.m a.by_operator.now) a.alpha a.high a.degrees.operators (omega arith) c.requires.tabulated.0.degrees.operator_degrees c.requires.by_index v.new.0 (omega (arith, c.requires.tabulated.2)) (λ i h. ap (λ (x : List ℕ). get_or x i 0) v.ensures ∙ filled_at a.row.now 0 0 (a.n + a.m) (omega arith) (omega (arith, c.requires.tabulated.2)) i (omega arith) h)
+    zero_row (table_graph a.n a.m a.by_operator.now) a.alpha a.high a.degrees.operators (omega arith) c.requires.tabulated.0.degrees.operator_degrees c.requires.by_index v.new.words (omega (arith, c.requires.tabulated.2)) (λ i h. ap (λ (x : List ℕ). get_or x i 0) v.ensures ∙ filled_at a.row.now 0 0 (a.n + a.m) (omega arith) (omega (arith, c.requires.tabulated.2)) i (omega arith) h)

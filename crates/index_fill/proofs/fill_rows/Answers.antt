@@ -55,7 +55,7 @@ offset_bounds-index-at c = omega (
 pub slice_bounds-store-end : goal.slice_bounds-store-end
 slice_bounds-store-end c = let l = c.loop-a in
     let w = length c.args.row.now in
-    subst (λ (k : ℕ). l.a * w + w ≤ k) (sym l.inv.2) ((let q : (let a = c.args in let w = length a.row.now in c.loop-a.a * w + w ≤ length a.index.now) = let a = c.args in
+    subst (λ (k : ℕ). l.a * w + w ≤ k) (sym l.invariant.2) ((let q : (let a = c.args in let w = length a.row.now in c.loop-a.a * w + w ≤ length a.index.now) = let a = c.args in
     let w = length a.row.now in
     row_inside a.m w c.loop-a.a w (omega arith) (omega arith) (length a.index.now) (subst (λ (z : ℕ). a.m * z ≤ length a.index.now) (sym c.requires.tabulated.1) c.requires.tabulated.2) in q))
 
@@ -64,10 +64,10 @@ overflow_add-differ c = let a = c.args in
     let l = c.loop-a in
     let w = length a.row.now in
     let v = c.store-differ.ensures in
-    let row = c.any_row.new.1.1.1.1.1.1.1.0 in
+    let row = c.any_row.new.row in
     let r = (row_values (table_graph a.n a.m a.by_operator.now) l.a w c.requires.tabulated.1 row c.any_row.ensures) in
     let long = ap length r ∙ length_values (λ (x : ℕ). level (table_graph a.n a.m a.by_operator.now) (suc l.a) x) w in
-    let d = ap₂ ◌+◌ l.inv.4 (v.1 ∙ ap (λ (k : ℕ). differing k (take (l.a * w + w - l.a * w) (drop (l.a * w) l.index)) row) long) ∙ differing_row w a.m (λ (b x : ℕ). level (table_graph a.n a.m a.by_operator.now) (suc b) x) a.index.now l.a (omega arith) l.index l.inv.3 row r in
+    let d = ap₂ ◌+◌ l.invariant.4 (v.1 ∙ ap (λ (k : ℕ). differing k (take (l.a * w + w - l.a * w) (drop (l.a * w) l.index)) row) long) ∙ differing_row w a.m (λ (b x : ℕ). level (table_graph a.n a.m a.by_operator.now) (suc b) x) a.index.now l.a (omega arith) l.index l.invariant.3 row r in
     omega (arith, d, differing_le a.index.now (rows a.m w (λ (b x : ℕ). level (table_graph a.n a.m a.by_operator.now) (suc b) x)) ((l.a + 1) * w), row_inside a.m w l.a w (omega arith) (omega arith) (a.m * w) (omega arith), index_small a.m w c.requires.tabulated.0.tables.by_operator.wide (omega (arith, c.requires.tabulated.1, c.requires.tabulated.0.tables.by_ride.wide, c.requires.tabulated.0.tables.by_operator.wide)))
 
 pub loop-a-preserved : goal.loop-a-preserved
@@ -75,14 +75,14 @@ loop-a-preserved c = let a = c.args in
     let l = c.loop-a in
     let w = length a.row.now in
     let v = c.store-differ.ensures in
-    let row = c.any_row.new.1.1.1.1.1.1.1.0 in
+    let row = c.any_row.new.row in
     let r = (row_values (table_graph a.n a.m a.by_operator.now) l.a w c.requires.tabulated.1 row c.any_row.ensures) in
     let long = ap length r ∙ length_values (λ (x : ℕ). level (table_graph a.n a.m a.by_operator.now) (suc l.a) x) w in
-    let d = ap₂ ◌+◌ l.inv.4 (v.1 ∙ ap (λ (k : ℕ). differing k (take (l.a * w + w - l.a * w) (drop (l.a * w) l.index)) row) long) ∙ differing_row w a.m (λ (b x : ℕ). level (table_graph a.n a.m a.by_operator.now) (suc b) x) a.index.now l.a (omega arith) l.index l.inv.3 row r in (
+    let d = ap₂ ◌+◌ l.invariant.4 (v.1 ∙ ap (λ (k : ℕ). differing k (take (l.a * w + w - l.a * w) (drop (l.a * w) l.index)) row) long) ∙ differing_row w a.m (λ (b x : ℕ). level (table_graph a.n a.m a.by_operator.now) (suc b) x) a.index.now l.a (omega arith) l.index l.invariant.3 row r in (
       omega arith,
-      omega (arith, l.inv.1),
-      same_len_mid (l.a * w) (l.a * w + w - l.a * w) l.index c.store-differ.new.0 (omega arith) ∙ l.inv.2,
-      stored_row w a.m (λ (b x : ℕ). level (table_graph a.n a.m a.by_operator.now) (suc b) x) a.index.now l.a (omega arith) l.index l.inv.3 _ (v.0 ∙ r),
+      omega (arith, l.invariant.1),
+      same_len_mid (l.a * w) (l.a * w + w - l.a * w) l.index c.store-differ.new.part (omega arith) ∙ l.invariant.2,
+      stored_row w a.m (λ (b x : ℕ). level (table_graph a.n a.m a.by_operator.now) (suc b) x) a.index.now l.a (omega arith) l.index l.invariant.3 _ (v.0 ∙ r),
       d,
     )
 

@@ -27,7 +27,7 @@ least-low-requires c = let a = c.args in
     let l = c.loop-alpha in
     let f = l.invariant.2 in
     let v = c.settle_row in
-    let w = work v.new.0 v.new.1.0 v.new.1.1.0 v.new.1.1.1.0 v.new.1.1.1.1.0 in
+    let w = work v.new.operators v.new.operator_degrees v.new.rides v.new.ride_degrees v.new.row in
     let g = table_graph (length a.operators.now) (length a.rides.now) a.by_operator.now in
     let e = subst₂ (λ (k j : ℕ). Raising (table_graph k j a.by_operator.now) a.alpha l.beta w × Settled (table_graph k j a.by_operator.now) a.alpha l.beta w) f.operators f.rides v.ensures in
     let fits = fits_again (length a.operators.now) (length a.rides.now) a.by_operator.now a.by_ride.now (work l.operators l.operator_degrees l.rides l.ride_degrees l.row) w f (omega arith) (omega arith) (omega arith) (omega arith) (omega arith) in
@@ -38,7 +38,7 @@ returns-then-low c = let a = c.args in
     let l = c.loop-alpha in
     let f = l.invariant.2 in
     let v = c.settle_row in
-    let w = work v.new.0 v.new.1.0 v.new.1.1.0 v.new.1.1.1.0 v.new.1.1.1.1.0 in
+    let w = work v.new.operators v.new.operator_degrees v.new.rides v.new.ride_degrees v.new.row in
     let g = table_graph (length a.operators.now) (length a.rides.now) a.by_operator.now in
     let e = subst₂ (λ (k j : ℕ). Raising (table_graph k j a.by_operator.now) a.alpha l.beta w × Settled (table_graph k j a.by_operator.now) a.alpha l.beta w) f.operators f.rides v.ensures in
     let fits = fits_again (length a.operators.now) (length a.rides.now) a.by_operator.now a.by_ride.now (work l.operators l.operator_degrees l.rides l.ride_degrees l.row) w f (omega arith) (omega arith) (omega arith) (omega arith) (omega arith) in
@@ -49,7 +49,7 @@ returns-then-low c = let a = c.args in
 pub loop-alpha-smaller : goal.loop-alpha-smaller
 loop-alpha-smaller c = let a = c.args in
     let l = c.loop-alpha in
-    let f = l.inv.2 in
+    let f = l.invariant.2 in
     let v = c.settle_row in
     let w = work v.last.0 v.last.1.0 v.last.1.1.0 v.last.1.1.1.0 v.last.1.1.1.1.0 in
     let g = table_graph (length a.operators.now) (length a.rides.now) a.by_operator.now in
@@ -57,12 +57,12 @@ loop-alpha-smaller c = let a = c.args in
     let fits = fits_again (length a.operators.now) (length a.rides.now) a.by_operator.now a.by_ride.now (work l.operators l.operator_degrees l.rides l.ride_degrees l.row) w f (omega arith) (omega arith) (omega arith) (omega arith) (omega arith) in
     let q = c.least-low in
     let least = subst (λ (k : ℕ). Least k w.rides w.ride_degrees q.result) fits.rides q.ensures in
-    omega (arith, least_high (length a.operators.now) (length a.rides.now) a.by_operator.now a.by_ride.now a.alpha c.requires.le_alpha.0 w fits l.beta l.inv.0 e.0 e.1 q.result least l.inv.1, least.bound)
+    omega (arith, least_high (length a.operators.now) (length a.rides.now) a.by_operator.now a.by_ride.now a.alpha c.requires.le_alpha.0 w fits l.beta l.invariant.0 e.0 e.1 q.result least l.invariant.1, least.bound)
 
 pub loop-alpha-preserved : goal.loop-alpha-preserved
 loop-alpha-preserved c = let a = c.args in
     let l = c.loop-alpha in
-    let f = l.inv.2 in
+    let f = l.invariant.2 in
     let v = c.settle_row in
     let w = work v.last.0 v.last.1.0 v.last.1.1.0 v.last.1.1.1.0 v.last.1.1.1.1.0 in
     let g = table_graph (length a.operators.now) (length a.rides.now) a.by_operator.now in
@@ -70,4 +70,4 @@ loop-alpha-preserved c = let a = c.args in
     let fits = fits_again (length a.operators.now) (length a.rides.now) a.by_operator.now a.by_ride.now (work l.operators l.operator_degrees l.rides l.ride_degrees l.row) w f (omega arith) (omega arith) (omega arith) (omega arith) (omega arith) in
     let q = c.least-low in
     let least = subst (λ (k : ℕ). Least k w.rides w.ride_degrees q.result) fits.rides q.ensures in
-    (omega arith, omega (arith, least.bound), fits, raising_next (length a.operators.now) (length a.rides.now) a.by_operator.now a.by_ride.now a.alpha c.requires.le_alpha.0 w fits l.beta l.inv.0 e.0 e.1 q.result least (least_high (length a.operators.now) (length a.rides.now) a.by_operator.now a.by_ride.now a.alpha c.requires.le_alpha.0 w fits l.beta l.inv.0 e.0 e.1 q.result least l.inv.1))
+    (omega arith, omega (arith, least.bound), fits, raising_next (length a.operators.now) (length a.rides.now) a.by_operator.now a.by_ride.now a.alpha c.requires.le_alpha.0 w fits l.beta l.invariant.0 e.0 e.1 q.result least (least_high (length a.operators.now) (length a.rides.now) a.by_operator.now a.by_ride.now a.alpha c.requires.le_alpha.0 w fits l.beta l.invariant.0 e.0 e.1 q.result least l.invariant.1))

@@ -28,7 +28,7 @@ pub returns-then-round-eq0 : goal.returns-then-round-eq0
 returns-then-round-eq0 c = let a = c.args in
     let l = c.loop-alpha in
     let v = c.round in
-    let w = work v.new.0 v.new.1.0 v.new.1.1.0 v.new.1.1.1.0 v.new.1.1.1.1.0 in
+    let w = work v.new.operators v.new.operator_degrees v.new.rides v.new.ride_degrees v.new.row in
     let r = subst₂ (λ (k j : ℕ). Rounded (table_graph k j a.by_operator.now) a.alpha a.beta l.operators v.result w) l.invariant.0.operators l.invariant.0.rides v.ensures in
     (r.raising, r.settled (omega arith))
 
@@ -37,7 +37,7 @@ loop-alpha-smaller c = let a = c.args in
     let l = c.loop-alpha in
     let v = c.round in
     let w = work v.last.0 v.last.1.0 v.last.1.1.0 v.last.1.1.1.0 v.last.1.1.1.1.0 in
-    let r = subst₂ (λ (k j : ℕ). Rounded (table_graph k j a.by_operator.now) a.alpha a.beta l.operators v.result w) l.inv.0.operators l.inv.0.rides v.ensures in
+    let r = subst₂ (λ (k j : ℕ). Rounded (table_graph k j a.by_operator.now) a.alpha a.beta l.operators v.result w) l.invariant.0.operators l.invariant.0.rides v.ensures in
     omega (arith, r.fewer)
 
 pub loop-alpha-preserved : goal.loop-alpha-preserved
@@ -45,5 +45,5 @@ loop-alpha-preserved c = let a = c.args in
     let l = c.loop-alpha in
     let v = c.round in
     let w = work v.last.0 v.last.1.0 v.last.1.1.0 v.last.1.1.1.0 v.last.1.1.1.1.0 in
-    let r = subst₂ (λ (k j : ℕ). Rounded (table_graph k j a.by_operator.now) a.alpha a.beta l.operators v.result w) l.inv.0.operators l.inv.0.rides v.ensures in
-    (fits_again (length a.operators.now) (length a.rides.now) a.by_operator.now a.by_ride.now (work l.operators l.operator_degrees l.rides l.ride_degrees l.row) w l.inv.0 (omega arith) (omega arith) (omega arith) (omega arith) (omega arith), r.raising)
+    let r = subst₂ (λ (k j : ℕ). Rounded (table_graph k j a.by_operator.now) a.alpha a.beta l.operators v.result w) l.invariant.0.operators l.invariant.0.rides v.ensures in
+    (fits_again (length a.operators.now) (length a.rides.now) a.by_operator.now a.by_ride.now (work l.operators l.operator_degrees l.rides l.ride_degrees l.row) w l.invariant.0 (omega arith) (omega arith) (omega arith) (omega arith) (omega arith), r.raising)

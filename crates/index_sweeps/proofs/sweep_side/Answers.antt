@@ -19,12 +19,12 @@ visit_side-removed-requires c = let l = c.loop-i in
 pub overflow_add-removed : goal.overflow_add-removed
 overflow_add-removed c = let l = c.loop-i in
     let v = c.visit_side-removed in
-    omega (arith, l.inv.5.removed, count_le (falls c.args.kept.now c.args.degrees.now c.args.limit) l.i, v.ensures.removed, bit_le (falls l.kept c.args.degrees.now c.args.limit l.i))
+    omega (arith, l.invariant.5.removed, count_le (falls c.args.kept.now c.args.degrees.now c.args.limit) l.i, v.ensures.removed, bit_le (falls l.kept c.args.degrees.now c.args.limit l.i))
 
 pub loop-i-preserved : goal.loop-i-preserved
 loop-i-preserved c = let l = c.loop-i in
     let v = c.visit_side-removed in
-    (omega arith, refl, omega arith, omega arith, omega arith, swept_more c.args.table.now c.args.width c.args.kept.now c.args.degrees.now c.args.levels.now l.kept l.levels l.others c.args.limit c.args.level l.i l.removed l.inv.5 (omega arith) (omega (arith, c.requires.levels_long)) (omega arith) _ _ _ _ (omega arith) v.ensures)
+    (omega arith, refl, omega arith, omega arith, omega arith, swept_more c.args.table.now c.args.width c.args.kept.now c.args.degrees.now c.args.levels.now l.kept l.levels l.others c.args.limit c.args.level l.i l.removed l.invariant.5 (omega arith) (omega (arith, c.requires.levels_long)) (omega arith) _ _ _ _ (omega arith) v.ensures)
 
 pub returns : goal.returns
 returns c = let e : c.loop-i.i ≡ length c.args.kept.now = omega arith in rw (← e) c.loop-i.invariant.5

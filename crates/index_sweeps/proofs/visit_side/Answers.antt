@@ -38,7 +38,7 @@ subtract-requires c =
     let a = c.args in
     let inside = row_inside (length a.kept.now) a.width a.i (length a.others.now) c.requires.1 c.requires.0.table.wide (length a.table.now) c.requires.0.table.size in
     let l = part_length a.table.now (a.i * a.width) (length a.others.now) inside in
-    (omega (arith, l), λ j h. subst (λ (z : ℕ). z ≤ get_or a.others.now j 0) (sym (part_at a.table.now (a.i * a.width) (length a.others.now) inside j 0 h)) (row_counted a.table.now a.width a.kept.now a.degrees.now a.levels.now a.others.now c.requires.0 a.i c.requires.1 j h (falls_kept a.kept.now a.degrees.now a.limit a.i (falls_true a.kept.now a.degrees.now a.limit a.i (c.requires.0.bits a.i c.requires.1) _ c.below.ensures c.if-kept-i-eq0.false))))
+    record { degrees_in_bounds = omega (arith, l); by_index = λ j h. subst (λ (z : ℕ). z ≤ get_or a.others.now j 0) (sym (part_at a.table.now (a.i * a.width) (length a.others.now) inside j 0 h)) (row_counted a.table.now a.width a.kept.now a.degrees.now a.levels.now a.others.now c.requires.0 a.i c.requires.1 j h (falls_kept a.kept.now a.degrees.now a.limit a.i (falls_true a.kept.now a.degrees.now a.limit a.i (c.requires.0.bits a.i c.requires.1) _ c.below.ensures c.if-kept-i-eq0.false))) }
 
 pub returns : goal.returns
 returns c =

@@ -6,8 +6,10 @@ use Rattle.limits_cover_pairs.proofs.cover_present.Goals as goal
 
 -- `limits_cover_pairs::cover_present` meets its contract: the pairs whose nodes are both present, under the limits of a peel.
 pub count-requires : goal.count-requires
-count-requires c = let left = left_counted a.head a.operators.now a.rides.now a.presence.now (own_limits a.head.operators a.minimums.now a.alpha a.beta) _ c.fill.ensures a.marks.now _ (c.cover.ensures _ after-present.present.ensures) in
+count-requires c = let a = c.args in
+    let left = left_counted a.head a.operators.now a.rides.now a.presence.now (own_limits a.head.operators a.minimums.now a.alpha a.beta) _ c.fill.ensures a.marks.now _ (c.cover.ensures _ c.present-here.ensures) in
     (search rules, search rules, left.0, left.1)
 
 pub returns : goal.returns
-returns c = left_shown a.head a.operators.now a.rides.now a.presence.now (own_limits a.head.operators a.minimums.now a.alpha a.beta) _ c.fill.ensures a.marks.now _ (c.cover.ensures _ after-present.present.ensures) _ c.count.ensures
+returns c = let a = c.args in
+    left_shown a.head a.operators.now a.rides.now a.presence.now (own_limits a.head.operators a.minimums.now a.alpha a.beta) _ c.fill.ensures a.marks.now _ (c.cover.ensures _ c.present-here.ensures) _ c.count.ensures

@@ -7,7 +7,8 @@ use Rattle.message_entry.proofs.enter_pair.Goals as goal
 
 -- `message_entry::enter_pair` meets its contract: the stamp and the revision stored and the pair arrays changed are what the board then says.
 pub store-requires : goal.store-requires
-store-requires c = let a = c.args in
+store-requires c = let r = c.requires.0.4 in
+    let a = c.args in
     let e = c.requires.0 in
     let b = lent a.head a.operators.now a.rides.now a.stamps.now a.revisions.now e.0 e.1 e.2 e.3 in
     let w = pair_within b a.message r c.requires.1 in
@@ -15,10 +16,11 @@ store-requires c = let a = c.args in
     (omega (arith, p, r.room.long Stamps tt), omega (arith, p, r.room.long Revisions tt))
 
 pub change-requires : goal.change-requires
-change-requires c = let w = pair_within _ c.args.message r c.requires.1 in
+change-requires c = let r = c.requires.0.4 in
+    let w = pair_within _ c.args.message r c.requires.1 in
     (r.room.pairs, w.0, w.1, r.room.long Operators tt, r.room.long Rides tt)
 
 pub returns : goal.returns
-returns c = let a = s.args in
+returns c = let a = c.args in
     λ index stamps' revisions' presence ready.
-    pair_entered (lent a.head a.operators.now a.rides.now a.stamps.now a.revisions.now index stamps' revisions' presence) a.message ready s.pre.1 _ _ _ _ _ c.store.ensures c.change.ensures
+    pair_entered (lent a.head a.operators.now a.rides.now a.stamps.now a.revisions.now index stamps' revisions' presence) a.message ready c.requires.1 _ _ _ _ _ c.store.ensures c.change.ensures

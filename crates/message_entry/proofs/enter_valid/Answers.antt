@@ -16,22 +16,24 @@ abbrev board : tie.Start → List ℕ → Board
 board s index = let a = s.args in lent a.head a.operators.now a.rides.now a.stamps.now a.revisions.now index a.presence_stamps.now a.presence_revisions.now a.presence.now
 
 pub returns-then-number-ne0 : goal.returns-then-number-ne0
-returns-then-number-ne0 c = λ index. let b = board c index in
+returns-then-number-ne0 c = let a = c.args in
+    λ index. let b = board c index in
     let n = entry_invalid b a.message _ c.valid_number-number.ensures (omega (arith, c.if-number-ne0.true)) in
     (n, entered_refused b a.message _ n (omega (arith, c.if-number-ne0.true)))
 
 pub not_later-requires : goal.not_later-requires
-not_later-requires c = let z : after-valid-number.valid-number.result ≡ 0 = omega (arith, c.if-number-ne0.false) in
-    (c.requires, sym after-valid-number.valid-number.ensures ∙ z)
+not_later-requires c = let z : c.valid_number-number.result ≡ 0 = omega (arith, c.if-number-ne0.false) in
+    (c.requires, sym c.valid_number-number.ensures ∙ z)
 
 pub returns-then-not_later : goal.returns-then-not_later
-returns-then-not_later c = λ index. let b = board c index in
-    let n = entry_10 b a.message _ after-valid-number.valid-number.ensures (omega (arith, c.if-number-ne0.false)) (sym (c.not_later.ensures index) ∙ c.if-not_later.true) in
+returns-then-not_later c = let a = c.args in
+    λ index. let b = board c index in
+    let n = entry_10 b a.message _ c.valid_number-number.ensures (omega (arith, c.if-number-ne0.false)) (sym (c.not_later.ensures index) ∙ c.if-not_later.true) in
     (n, entered_refused b a.message 10 n (omega arith))
 
 pub enter-pairs-requires : goal.enter-pairs-requires
-enter-pairs-requires c = let z : after-valid-number.valid-number.result ≡ 0 = omega (arith, c.if-number-ne0.false) in
-    (c.requires.0, record { room = c.requires.1; valid = sym after-valid-number.valid-number.ensures ∙ z })
+enter-pairs-requires c = let z : c.valid_number-number.result ≡ 0 = omega (arith, c.if-number-ne0.false) in
+    (c.requires.0, record { room = c.requires.1; valid = sym c.valid_number-number.ensures ∙ z })
 
 pub returns : goal.returns
 returns c = let a = c.args in

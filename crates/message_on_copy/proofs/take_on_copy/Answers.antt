@@ -6,7 +6,8 @@ use Rattle.message_on_copy.proofs.OnCopy.{both_long, copy_none, taken_there}
 use Rattle.message_on_copy.proofs.take_on_copy.Goals as goal
 
 pub copy_board-requires : goal.copy_board-requires
-copy_board-requires c = both_long (let a = c.args in lent a.head a.operators.now a.rides.now a.stamps.now a.revisions.now a.index.now a.presence_stamps.now a.presence_revisions.now a.presence.now) a.message (parts a.spare_operators.now a.spare_rides.now a.spare_stamps.now a.spare_revisions.now a.spare_index.now a.spare_presence_stamps.now a.spare_presence_revisions.now a.spare_presence.now) c.requires
+copy_board-requires c = let a = c.args in
+    both_long (let a = c.args in lent a.head a.operators.now a.rides.now a.stamps.now a.revisions.now a.index.now a.presence_stamps.now a.presence_revisions.now a.presence.now) a.message (parts a.spare_operators.now a.spare_rides.now a.spare_stamps.now a.spare_revisions.now a.spare_index.now a.spare_presence_stamps.now a.spare_presence_revisions.now a.spare_presence.now) c.requires
 
 pub take-requires : goal.take-requires
 take-requires c = let a = c.args in

@@ -13,18 +13,21 @@ pub returns-then-message-gt6 : goal.returns-then-message-gt6
 returns-then-message-gt6 c = let a = c.args in kind_over a.head a.message (omega arith)
 
 pub returns-then-outside : goal.returns-then-outside
-returns-then-outside c = slot_over a.head a.message (omega arith) (omega arith) (sym c.outside.ensures ∙ c.if-outside.true)
+returns-then-outside c = let a = c.args in
+    slot_over a.head a.message (omega arith) (omega arith) (sym c.outside.ensures ∙ c.if-outside.true)
 
 pub returns-then-message-eq0-2 : goal.returns-then-message-eq0-2
-returns-then-message-eq0-2 c = stamp_zero a.head a.message (omega arith) (omega arith) (sym after-outside.outside.ensures ∙ c.if-outside.false) (omega arith)
+returns-then-message-eq0-2 c = let a = c.args in
+    stamp_zero a.head a.message (omega arith) (omega arith) (sym c.outside.ensures ∙ c.if-outside.false) (omega arith)
 
 pub returns-then-message-gt255 : goal.returns-then-message-gt255
-returns-then-message-gt255 c = revision_over a.head a.message (omega arith) (omega arith) (sym after-outside.outside.ensures ∙ c.if-outside.false) (omega arith) (omega arith)
+returns-then-message-gt255 c = let a = c.args in
+    revision_over a.head a.message (omega arith) (omega arith) (sym c.outside.ensures ∙ c.if-outside.false) (omega arith) (omega arith)
 
 pub returns-then-unused-ne0 : goal.returns-then-unused-ne0
-returns-then-unused-ne0 c = let a = start.args in
-    unused_set a.head a.message (omega arith) (omega arith) (sym c.outside.ensures ∙ else3.if3.false) (omega arith) (omega arith) (omega (arith, c.unused.ensures))
+returns-then-unused-ne0 c = let a = c.args in
+    unused_set a.head a.message (omega arith) (omega arith) (sym c.outside.ensures ∙ c.if-outside.false) (omega arith) (omega arith) (omega (arith, c.unused.ensures))
 
 pub returns : goal.returns
-returns c = let a = start.args in
-    no_number a.head a.message (omega arith) (omega arith) (sym c.outside.ensures ∙ else3.if3.false) (omega arith) (omega arith) (omega (arith, c.unused.ensures))
+returns c = let a = c.args in
+    no_number a.head a.message (omega arith) (omega arith) (sym c.outside.ensures ∙ c.if-outside.false) (omega arith) (omega arith) (omega (arith, c.unused.ensures))

@@ -7,19 +7,22 @@ use Rattle.pairs_change.proofs.change.Goals as goal
 
 -- `pairs_change::change` meets its contract: the shifted arrays hold the pairs after the message, and their tails are zero.
 pub count_of-count-requires : goal.count_of-count-requires
-count_of-count-requires c = let place = c.place_of-place.ensures in
+count_of-count-requires c = let a = c.args in
+    let place = c.place_of-place.ensures in
     let stands = c.stands_at-stands.ensures in
     (omega arith, λ e. omega (arith, stands_place a.head a.operators.now a.rides.now c.requires.0 a.operator a.ride c.requires.1 c.requires.2 a.grant _ place _ stands e))
 
 pub shift-requires : goal.shift-requires
-shift-requires c = let place = c.place_of-place.ensures in
+shift-requires c = let a = c.args in
+    let place = c.place_of-place.ensures in
     let stands = c.stands_at-stands.ensures in
     let counted = c.count_of-count.ensures in
     let fits = count_fits a.head a.operators.now a.rides.now c.requires.0 a.operator a.ride c.requires.1 c.requires.2 a.grant _ place _ stands _ counted in
     (place.within, omega arith, omega arith, count_next a.head a.operators.now a.rides.now c.requires.0 a.operator a.ride c.requires.1 c.requires.2 a.grant _ place _ stands _ counted, count_place a.head a.operators.now a.rides.now c.requires.0 a.operator a.ride c.requires.1 c.requires.2 a.grant _ place _ stands _ counted)
 
 pub shift-requires-2 : goal.shift-requires-2
-shift-requires-2 c = let place = after-place-of.place_of.ensures in
+shift-requires-2 c = let a = c.args in
+    let place = c.place_of-place.ensures in
     let stands = c.stands_at-stands.ensures in
     let counted = c.count_of-count.ensures in
     let fits = count_fits a.head a.operators.now a.rides.now c.requires.0 a.operator a.ride c.requires.1 c.requires.2 a.grant _ place _ stands _ counted in
@@ -47,8 +50,9 @@ overflow_cast-result c = let a = c.args in
     omega (arith, count_fits a.head a.operators.now a.rides.now c.requires.0 a.operator a.ride c.requires.1 c.requires.2 a.grant _ place _ stands _ counted, product_small a.head.operators a.head.rides c.requires.0.few_operators c.requires.0.few_rides)
 
 pub returns : goal.returns
-returns c = let place = c.place_of-place.ensures in
+returns c = let a = c.args in
+    let place = c.place_of-place.ensures in
     let stands = c.stands_at-stands.ensures in
     let counted = c.count_of-count.ensures in
     let fits = count_fits a.head a.operators.now a.rides.now c.requires.0 a.operator a.ride c.requires.1 c.requires.2 a.grant _ place _ stands _ counted in
-    changed_all a.head a.operators.now a.rides.now c.requires.0 a.operator a.ride c.requires.1 c.requires.2 a.grant _ place _ stands _ counted _ _ c.shift.ensures after-shift2.shift2.ensures (omega arith) (omega arith) _ _ c.fill.ensures c.fill-2.ensures
+    changed_all a.head a.operators.now a.rides.now c.requires.0 a.operator a.ride c.requires.1 c.requires.2 a.grant _ place _ stands _ counted _ _ c.shift.ensures c.shift-2.ensures (omega arith) (omega arith) _ _ c.fill.ensures c.fill-2.ensures

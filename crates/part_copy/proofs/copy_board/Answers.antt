@@ -15,7 +15,8 @@ long : (s : tie.Start) (p : Part) → (places s.args.head p ≤ length ((board s
 long s p = (not_short (board s) s.requires.0 p, not_short (spare s) s.requires.1 p)
 
 pub overflow_mul-places : goal.overflow_mul-places
-overflow_mul-places c = omega (arith, product_fits h.operators h.rides (omega arith) (omega arith))
+overflow_mul-places c = let h = c.args.head in
+    omega (arith, product_fits h.operators h.rides (omega arith) (omega arith))
 
 pub copy-requires : goal.copy-requires
 copy-requires c = long c Operators
@@ -46,4 +47,5 @@ pub copy-requires-6 : goal.copy-requires-6
 copy-requires-6 c = long c Presence
 
 pub returns : goal.returns
-returns c = all_copied (let a = c.args in lent a.head a.operators.now a.rides.now a.stamps.now a.revisions.now a.index.now a.presence_stamps.now a.presence_revisions.now a.presence.now) c.requires.0 (parts a.spare_operators.now a.spare_rides.now a.spare_stamps.now a.spare_revisions.now a.spare_index.now a.spare_presence_stamps.now a.spare_presence_revisions.now a.spare_presence.now) _ c.copy.ensures c2.copy2.ensures c.copy_stamps.ensures c3.copy3.ensures c4.copy4.ensures c.copy_stamps-2.ensures c5.copy5.ensures c.copy-6.ensures
+returns c = let a = c.args in
+    all_copied (let a = c.args in lent a.head a.operators.now a.rides.now a.stamps.now a.revisions.now a.index.now a.presence_stamps.now a.presence_revisions.now a.presence.now) c.requires.0 (parts a.spare_operators.now a.spare_rides.now a.spare_stamps.now a.spare_revisions.now a.spare_index.now a.spare_presence_stamps.now a.spare_presence_revisions.now a.spare_presence.now) _ c.copy.ensures c.copy-2.ensures c.copy_stamps.ensures c.copy-3.ensures c.copy-4.ensures c.copy_stamps-2.ensures c.copy-5.ensures c.copy-6.ensures

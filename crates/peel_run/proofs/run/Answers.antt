@@ -43,7 +43,7 @@ step-state-requires c = let l = c.loop-state in
 pub loop-state-smaller : goal.loop-state-smaller
 loop-state-smaller c = let l = c.loop-state in
     let p = c.requires.0 in
-    let w = (l.inv.1 p.0 p.1 p.2 p.3).state in
+    let w = (l.invariant.1 p.0 p.1 p.2 p.3).state in
     let sizes = p.3.held.remaining in
     let r = c.subtract_row.ensures p.0 l.marks p.2 (same_sizes p.0 _ _ _ _ _ _ w.held.remaining sizes.operators_are sizes.rides_are) (lowest_marked p.0 p.1 l.marks _ w.next (omega (arith, c.if-operators-rides.false, sizes.operators_are, sizes.rides_are))) in
     omega (arith, (c.step-state.ensures p.0 p.1 (lowered p.0 p.1 _ _ p.2 l.state _ _ w _ _ _ r)).steps, c.loop-state-test)
@@ -52,7 +52,7 @@ pub loop-state-preserved : goal.loop-state-preserved
 loop-state-preserved c = let l = c.loop-state in (
   search rules,
   λ g limit t o.
-      let w = l.inv.1 g limit t o in
+      let w = l.invariant.1 g limit t o in
       let sizes = o.held.remaining in
       let r = c.subtract_row.ensures g l.marks t (same_sizes g _ _ _ _ _ _ w.state.held.remaining sizes.operators_are sizes.rides_are) (lowest_marked g limit l.marks _ w.state.next (omega (arith, c.if-operators-rides.false, sizes.operators_are, sizes.rides_are))) in
       running_step g limit _ _ l.state _ _ _ _ _ _ w (omega (arith, c.loop-state-test)) (omega (arith, c.if-operators-rides.false, sizes.operators_are, sizes.rides_are)) refl refl (c.step-state.ensures g limit (lowered g limit _ _ t l.state _ _ w.state _ _ _ r)),

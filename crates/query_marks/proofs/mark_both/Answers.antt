@@ -9,17 +9,17 @@ use Rattle.query_marks.proofs.mark_both.Goals as goal
 pub count_marks-rides-requires : goal.count_marks-rides-requires
 count_marks-rides-requires c = let a = c.args in
     let v = c.mark_levels-all in
-    let m = row_part a.row.now a.presence.now a.least v.result v.new.1.1.1.0 v.ensures in
+    let m = row_part a.row.now a.presence.now a.least v.result v.new.marks v.ensures in
     (omega (arith, part_long _ _ a.marks.now a.n _ c.requires.0 c.requires.2 _ _ m (omega arith), c.requires.3), part_bits _ _ a.marks.now a.n _ c.requires.0 c.requires.2 _ _ m (omega arith))
 
 pub overflow_sub-result : goal.overflow_sub-result
 overflow_sub-result c = let a = c.args in
     let v = c.mark_levels-all in
-    let m = row_part a.row.now a.presence.now a.least v.result v.new.1.1.1.0 v.ensures in
+    let m = row_part a.row.now a.presence.now a.least v.result v.new.marks v.ensures in
     rides_le _ _ a.marks.now a.n _ c.requires.0 c.requires.2 _ _ m (omega arith) c.count_marks-rides.result c.count_marks-rides.ensures
 
 pub returns : goal.returns
 returns c = let a = c.args in
     let v = c.mark_levels-all in
-    let m = row_part a.row.now a.presence.now a.least v.result v.new.1.1.1.0 v.ensures in
+    let m = row_part a.row.now a.presence.now a.least v.result v.new.marks v.ensures in
     both_marked _ _ a.marks.now a.n _ c.requires.0 c.requires.2 _ _ m (omega arith) c.count_marks-rides.result c.count_marks-rides.ensures

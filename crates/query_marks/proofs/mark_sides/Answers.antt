@@ -12,5 +12,5 @@ returns c = let a = c.args in
     let v = c.mark_levels-operators in
     let w = c.mark_levels-rides in
     sides_marked a.row.now a.presence.now a.marks.now a.n _ a.operator_least a.ride_least refl c.requires.0 c.requires.2
-    v.result v.new.1.1.1.0 (levels_part _ _ _ 0 _ _ _ (omega (arith, c.requires.0)) v.ensures) (omega arith)
-    w.result w.new.1.1.1.0 (levels_part _ _ _ a.n _ _ _ (omega (arith, c.requires.0)) w.ensures) (omega arith)
+    v.result v.new.marks (levels_part _ _ _ 0 _ _ _ (omega (arith, c.requires.0)) v.ensures) (omega arith)
+    w.result w.new.marks (levels_part _ _ _ a.n _ _ _ (omega (arith, c.requires.0)) w.ensures) (omega arith)

@@ -14,5 +14,5 @@ returns c = let a = c.args in
     let w = c.mark_zeros-marked_rides in
     let nodes = a.operators + a.rides in
     sides_marked _ a.presence.now a.marks.now a.operators nodes a.operator_least a.ride_least (length-replicate {A = ℕ} nodes 0) (omega arith) c.requires.3
-    v.result v.new.1.1.0 (zeros_part nodes _ _ 0 _ _ _ (omega (arith, c.requires.2)) v.ensures) (omega arith)
-    w.result w.new.1.1.0 (zeros_part nodes _ _ a.operators _ _ _ (omega (arith, c.requires.2)) w.ensures) (omega arith)
+    v.result v.new.marks (zeros_part nodes _ _ 0 _ _ _ (omega (arith, c.requires.2)) v.ensures) (omega arith)
+    w.result w.new.marks (zeros_part nodes _ _ a.operators _ _ _ (omega (arith, c.requires.2)) w.ensures) (omega arith)

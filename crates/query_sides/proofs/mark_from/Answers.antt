@@ -1,5 +1,4 @@
 -- `query_sides::mark_from` meets its contract. The loop's invariant: the marks below i are set and counted.
--- who is marked
 use borrow.Author.Rules.{rules}
 use mathlib.Core.Path.{◌≡◌, refl, ap}
 use mathlib.Core.Bool.{Bool, ◌&&◌}
@@ -13,10 +12,6 @@ use Rattle.query_sides.proofs.Marked.{Upto, upto_none, upto_more, upto_few, upto
 use Rattle.query_sides.proofs.mark_from.Goals as goal
 
 -- `query_sides::mark_from` meets its contract. The loop's invariant: the marks below i are set and counted.
--- who is marked
-abbrev test : List ℕ → List ℕ → ℕ → ℕ → Bool
-test levels presence below k = present presence k && ltb below (get_or levels k 0)
-
 pub loop-i-init : goal.loop-i-init
 loop-i-init c = (omega arith, refl, refl, upto_none _ _)
 

@@ -11,4 +11,4 @@ pub returns-then-short_board : goal.returns-then-short_board
 returns-then-short_board c = sym (ap (λ (t : Bool). t || board_short (let a = c.args in lent a.head a.spare_operators.now a.spare_rides.now a.spare_stamps.now a.spare_revisions.now a.spare_index.now a.spare_presence_stamps.now a.spare_presence_revisions.now a.spare_presence.now)) (sym c.short_board.ensures ∙ c.if-short_board.true))
 
 pub returns : goal.returns
-returns c = c.short_board-2.ensures ∙ sym (ap (λ (t : Bool). t || board_short (spare (lending asked))) (sym asked.short-board.ensures ∙ c.if-short_board.false))
+returns c = c.short_board-2.ensures ∙ sym (ap (λ (t : Bool). t || board_short (let a = c.args in lent a.head a.spare_operators.now a.spare_rides.now a.spare_stamps.now a.spare_revisions.now a.spare_index.now a.spare_presence_stamps.now a.spare_presence_revisions.now a.spare_presence.now)) (sym c.short_board.ensures ∙ c.if-short_board.false))

@@ -18,17 +18,21 @@ returns-then-head-gt60 c = simp (le-ltb 200 c.args.head.operators (omega arith),
 
 pub returns-then-short : goal.returns-then-short
 unfolding first_number
-returns-then-short c = simp (le-ltb 200 h.operators (omega arith), le-ltb 60 h.rides (omega arith), c.if-short.true)
+returns-then-short c = let h = c.args.head in
+    simp (le-ltb 200 h.operators (omega arith), le-ltb 60 h.rides (omega arith), c.if-short.true)
 
 pub overflow_mul-head : goal.overflow_mul-head
-overflow_mul-head c = omega (arith, product_small h.operators h.rides (omega arith) (omega arith))
+overflow_mul-head c = let h = c.args.head in
+    omega (arith, product_small h.operators h.rides (omega arith) (omega arith))
 
 pub returns-then-head : goal.returns-then-head
 unfolding first_number
-returns-then-head c = let long : c.args.short ≡ false = search in
+returns-then-head c = let h = c.args.head in
+    let long : c.args.short ≡ false = search in
     simp (le-ltb 200 h.operators (omega arith), le-ltb 60 h.rides (omega arith), long, lt-ltb _ _ c.if-head.true)
 
 pub returns : goal.returns
 unfolding first_number
-returns c = let long : c.args.short ≡ false = search in
+returns c = let h = c.args.head in
+    let long : c.args.short ≡ false = search in
     simp (le-ltb 200 h.operators (omega arith), le-ltb 60 h.rides (omega arith), long, le-ltb _ _ c.if-head.false)

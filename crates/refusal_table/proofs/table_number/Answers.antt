@@ -7,15 +7,19 @@ use Rattle.refusal_table.proofs.table_number.Goals as goal
 
 -- `refusal_table::table_number` meets its contract: 1 to 4, and then 5.
 pub returns-then-number-ne0 : goal.returns-then-number-ne0
-returns-then-number-ne0 c = table_head a.head a.short a.operators.now a.rides.now _ c.head_number-number.ensures (omega arith)
+returns-then-number-ne0 c = let a = c.args in
+    table_head a.head a.short a.operators.now a.rides.now _ c.head_number-number.ensures (omega arith)
 
 pub ascending-requires : goal.ascending-requires
-ascending-requires c = let n = head_none a.head a.short a.operators.now a.rides.now _ c.head_number-number.ensures (omega arith) in
+ascending-requires c = let a = c.args in
+    let n = head_none a.head a.short a.operators.now a.rides.now _ c.head_number-number.ensures (omega arith) in
     let p = c.requires n.0 in
     (omega (arith, n.1, p.0), omega (arith, n.1, p.1))
 
 pub returns-then-ascending : goal.returns-then-ascending
-returns-then-ascending c = table_0 a.head a.short a.operators.now a.rides.now _ c.head_number-number.ensures (omega arith) (sym c.ascending.ensures ∙ c.if-ascending.true)
+returns-then-ascending c = let a = c.args in
+    table_0 a.head a.short a.operators.now a.rides.now _ c.head_number-number.ensures (omega arith) (sym c.ascending.ensures ∙ c.if-ascending.true)
 
 pub returns : goal.returns
-returns c = table_5 a.head a.short a.operators.now a.rides.now _ c.head_number-number.ensures (omega arith) (sym c.ascending.ensures ∙ c.if-ascending.false)
+returns c = let a = c.args in
+    table_5 a.head a.short a.operators.now a.rides.now _ c.head_number-number.ensures (omega arith) (sym c.ascending.ensures ∙ c.if-ascending.false)
