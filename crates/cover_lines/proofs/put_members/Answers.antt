@@ -1,5 +1,4 @@
 -- `cover_lines::put_members` meets its contract. The invariant: the lines of the first i nodes are written.
--- one node more
 use borrow.Author.Rules.{rules}
 use mathlib.Core.Path.{◌≡◌, ◌∙◌}
 use mathlib.Core.Bool.{Bool}
@@ -33,7 +32,7 @@ loop-i-preserved c =
     let l = c.loop-i in
     let a = c.args in (
       omega arith,
-      c.put_member-end.auto.0 ∙ l.invariant.1,
+      c.put_member-end.auto.out ∙ l.invariant.1,
       more a.name.now (member_at a.least a.levels.now a.first) (level_at a.levels.now a.first) l.i l.invariant.2 c.put_member-end.ensures,
     )
 

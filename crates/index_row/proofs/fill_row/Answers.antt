@@ -19,7 +19,7 @@ pub raise-requires : goal.raise-requires
 raise-requires c = let a = c.args in
     let ones : List ℕ = replicate 200 1 in
     let ones' : List ℕ = replicate 60 1 in
-    ((c.requires.1, row_fits a.n a.m a.by_operator.now a.by_ride.now c.requires.0.tables ones a.degrees.operators ones' a.degrees.rides a.row.now refl c.requires.0.degrees.operators_long refl c.requires.0.degrees.rides_long c.requires.2 (λ i h. get_or-replicate 200 i 1 0 h) (λ i h. get_or-replicate 60 i 1 0 h) c.requires.0.degrees), row_start a.n a.m a.by_operator.now a.by_ride.now c.requires.0.tables ones a.degrees.operators ones' a.degrees.rides a.row.now refl c.requires.0.degrees.operators_long refl c.requires.0.degrees.rides_long c.requires.2 (λ i h. get_or-replicate 200 i 1 0 h) (λ i h. get_or-replicate 60 i 1 0 h) c.requires.0.degrees)
+    record { le_alpha = (c.requires.1, row_fits a.n a.m a.by_operator.now a.by_ride.now c.requires.0.tables ones a.degrees.operators ones' a.degrees.rides a.row.now refl c.requires.0.degrees.operators_long refl c.requires.0.degrees.rides_long c.requires.2 (λ i h. get_or-replicate 200 i 1 0 h) (λ i h. get_or-replicate 60 i 1 0 h) c.requires.0.degrees); start = row_start a.n a.m a.by_operator.now a.by_ride.now c.requires.0.tables ones a.degrees.operators ones' a.degrees.rides a.row.now refl c.requires.0.degrees.operators_long refl c.requires.0.degrees.rides_long c.requires.2 (λ i h. get_or-replicate 200 i 1 0 h) (λ i h. get_or-replicate 60 i 1 0 h) c.requires.0.degrees }
 
 pub returns : goal.returns
 returns c = let a = c.args in

@@ -17,10 +17,10 @@ pub settle_row-requires : goal.settle_row-requires
 settle_row-requires c = let a = c.args in
     let l = c.loop-alpha in
     let w = work l.operators l.operator_degrees l.rides l.ride_degrees l.row in
-    let f = l.invariant.2 in (
-      (c.requires.le_alpha.0, l.invariant.0, subst₂ (λ (k j : ℕ). Fits k j a.by_operator.now a.by_ride.now w) (sym f.operators) (sym f.rides) f),
-      subst₂ (λ (k j : ℕ). Raising (table_graph k j a.by_operator.now) a.alpha l.beta w) (sym f.operators) (sym f.rides) l.invariant.3,
-    )
+    let f = l.invariant.2 in record {
+      le_alpha = (c.requires.le_alpha.0, l.invariant.0, subst₂ (λ (k j : ℕ). Fits k j a.by_operator.now a.by_ride.now w) (sym f.operators) (sym f.rides) f);
+      raising = subst₂ (λ (k j : ℕ). Raising (table_graph k j a.by_operator.now) a.alpha l.beta w) (sym f.operators) (sym f.rides) l.invariant.3;
+    }
 
 pub least-low-requires : goal.least-low-requires
 least-low-requires c = let a = c.args in
@@ -51,7 +51,7 @@ loop-alpha-smaller c = let a = c.args in
     let l = c.loop-alpha in
     let f = l.invariant.2 in
     let v = c.settle_row in
-    let w = work v.last.0 v.last.1.0 v.last.1.1.0 v.last.1.1.1.0 v.last.1.1.1.1.0 in
+    let w = work v.new.operators v.new.operator_degrees v.new.rides v.new.ride_degrees v.new.row in
     let g = table_graph (length a.operators.now) (length a.rides.now) a.by_operator.now in
     let e = subst₂ (λ (k j : ℕ). Raising (table_graph k j a.by_operator.now) a.alpha l.beta w × Settled (table_graph k j a.by_operator.now) a.alpha l.beta w) f.operators f.rides v.ensures in
     let fits = fits_again (length a.operators.now) (length a.rides.now) a.by_operator.now a.by_ride.now (work l.operators l.operator_degrees l.rides l.ride_degrees l.row) w f (omega arith) (omega arith) (omega arith) (omega arith) (omega arith) in
@@ -64,7 +64,7 @@ loop-alpha-preserved c = let a = c.args in
     let l = c.loop-alpha in
     let f = l.invariant.2 in
     let v = c.settle_row in
-    let w = work v.last.0 v.last.1.0 v.last.1.1.0 v.last.1.1.1.0 v.last.1.1.1.1.0 in
+    let w = work v.new.operators v.new.operator_degrees v.new.rides v.new.ride_degrees v.new.row in
     let g = table_graph (length a.operators.now) (length a.rides.now) a.by_operator.now in
     let e = subst₂ (λ (k j : ℕ). Raising (table_graph k j a.by_operator.now) a.alpha l.beta w × Settled (table_graph k j a.by_operator.now) a.alpha l.beta w) f.operators f.rides v.ensures in
     let fits = fits_again (length a.operators.now) (length a.rides.now) a.by_operator.now a.by_ride.now (work l.operators l.operator_degrees l.rides l.ride_degrees l.row) w f (omega arith) (omega arith) (omega arith) (omega arith) (omega arith) in

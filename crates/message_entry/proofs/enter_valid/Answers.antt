@@ -1,5 +1,4 @@
 -- `message_entry::enter_valid` meets its contract: refused by its number, or entered.
--- the board that the call was lent, with an index
 use borrow.Author.Rules.{rules}
 use mathlib.Core.Path.{◌≡◌, refl, sym, ◌∙◌}
 use mathlib.Core.List.{List}
@@ -10,14 +9,9 @@ use Rattle.refusal_message.proofs.Message.{entry_invalid, entry_10, entry_0}
 use Rattle.message_entry.proofs.Entering.{entered_none, entered_refused}
 use Rattle.message_entry.proofs.enter_valid.Goals as goal
 
--- `message_entry::enter_valid` meets its contract: refused by its number, or entered.
--- the board that the call was lent, with an index
-abbrev board : tie.Start → List ℕ → Board
-board s index = let a = s.args in lent a.head a.operators.now a.rides.now a.stamps.now a.revisions.now index a.presence_stamps.now a.presence_revisions.now a.presence.now
-
 pub returns-then-number-ne0 : goal.returns-then-number-ne0
 returns-then-number-ne0 c = let a = c.args in
-    λ index. let b = board c index in
+    λ index. let b = lent a.head a.operators.now a.rides.now a.stamps.now a.revisions.now index a.presence_stamps.now a.presence_revisions.now a.presence.now in
     let n = entry_invalid b a.message _ c.valid_number-number.ensures (omega (arith, c.if-number-ne0.true)) in
     (n, entered_refused b a.message _ n (omega (arith, c.if-number-ne0.true)))
 
@@ -27,7 +21,7 @@ not_later-requires c = let z : c.valid_number-number.result ≡ 0 = omega (arith
 
 pub returns-then-not_later : goal.returns-then-not_later
 returns-then-not_later c = let a = c.args in
-    λ index. let b = board c index in
+    λ index. let b = lent a.head a.operators.now a.rides.now a.stamps.now a.revisions.now index a.presence_stamps.now a.presence_revisions.now a.presence.now in
     let n = entry_10 b a.message _ c.valid_number-number.ensures (omega (arith, c.if-number-ne0.false)) (sym (c.not_later.ensures index) ∙ c.if-not_later.true) in
     (n, entered_refused b a.message 10 n (omega arith))
 

@@ -1,5 +1,4 @@
 -- `part_copy::copy_board` meets its contract: each part is copied to its length.
--- the board that the call was lent
 use borrow.Author.Rules.{rules}
 use Prim.Native.Nat.{◌≤◌}
 use native.Mathlib.Omega.{arith}
@@ -10,41 +9,37 @@ use Rattle.pairs.proofs.Place.{product_fits}
 use Rattle.part_copy.proofs.Copy.{all_copied}
 use Rattle.part_copy.proofs.copy_board.Goals as goal
 
--- each part of both is long enough
-long : (s : tie.Start) (p : Part) → (places s.args.head p ≤ length ((board s).part p)) × (places s.args.head p ≤ length ((spare s).part p))
-long s p = (not_short (board s) s.requires.0 p, not_short (spare s) s.requires.1 p)
-
 pub overflow_mul-places : goal.overflow_mul-places
 overflow_mul-places c = let h = c.args.head in
     omega (arith, product_fits h.operators h.rides (omega arith) (omega arith))
 
 pub copy-requires : goal.copy-requires
-copy-requires c = long c Operators
+copy-requires c = (not_short _ c.requires.0 Operators, not_short _ c.requires.1 Operators)
 
 pub copy-requires-2 : goal.copy-requires-2
-copy-requires-2 c = long c Rides
+copy-requires-2 c = (not_short _ c.requires.0 Rides, not_short _ c.requires.1 Rides)
 
 pub copy_stamps-requires : goal.copy_stamps-requires
-copy_stamps-requires c = long c Stamps
+copy_stamps-requires c = (not_short _ c.requires.0 Stamps, not_short _ c.requires.1 Stamps)
 
 pub copy-requires-3 : goal.copy-requires-3
-copy-requires-3 c = long c Revisions
+copy-requires-3 c = (not_short _ c.requires.0 Revisions, not_short _ c.requires.1 Revisions)
 
 pub overflow_mul-m : goal.overflow_mul-m
 overflow_mul-m c = let h = c.args.head in
     omega (arith, product_fits h.operators h.rides (omega arith) (omega arith), product_fits h.rides h.rides (omega arith) (omega arith))
 
 pub copy-requires-4 : goal.copy-requires-4
-copy-requires-4 c = long c Index
+copy-requires-4 c = (not_short _ c.requires.0 Index, not_short _ c.requires.1 Index)
 
 pub copy_stamps-requires-2 : goal.copy_stamps-requires-2
-copy_stamps-requires-2 c = long c PresenceStamps
+copy_stamps-requires-2 c = (not_short _ c.requires.0 PresenceStamps, not_short _ c.requires.1 PresenceStamps)
 
 pub copy-requires-5 : goal.copy-requires-5
-copy-requires-5 c = long c PresenceRevisions
+copy-requires-5 c = (not_short _ c.requires.0 PresenceRevisions, not_short _ c.requires.1 PresenceRevisions)
 
 pub copy-requires-6 : goal.copy-requires-6
-copy-requires-6 c = long c Presence
+copy-requires-6 c = (not_short _ c.requires.0 Presence, not_short _ c.requires.1 Presence)
 
 pub returns : goal.returns
 returns c = let a = c.args in

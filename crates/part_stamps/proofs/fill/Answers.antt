@@ -13,7 +13,7 @@ use Rattle.part_stamps.proofs.fill.Goals as goal
 -- `part_stamps::fill` meets its contract: the stamps are zeroed, and those of the listed pairs set.
 pub stamp_pairs-requires : goal.stamp_pairs-requires
 stamp_pairs-requires c = let a = c.args in
-    ((c.requires.0, omega (arith, c.requires.1)), λ k l. ap (λ (x : List ℕ). get_or x k 0) c.fill_stamps.ensures ∙ filled_at a.stamps.now 0 0 (pair_places a.head) (omega arith) c.requires.1 k (omega arith) l)
+    record { accepted_pairs = (c.requires.0, omega (arith, c.requires.1)); by_index = λ k l. ap (λ (x : List ℕ). get_or x k 0) c.fill_stamps.ensures ∙ filled_at a.stamps.now 0 0 (pair_places a.head) (omega arith) c.requires.1 k (omega arith) l }
 
 pub returns : goal.returns
 returns c = let a = c.args in

@@ -33,7 +33,7 @@ returns-then-not-is_later c = let a = c.args in
     let k = rw c.place-at.ensures at c.is_later.ensures in
     λ index stamps' revisions' presence.
     let b = lent a.head a.operators.now a.rides.now a.stamps.now a.revisions.now index stamps' revisions' presence in
-    sym (ap not (never_later a.message _ _ (sym k ∙ not-true c.is_later.result c.if-not-is_later.true) ((listed_graph b).cleared a.message.operator a.message.ride))) ∙ pair_refused b a.message c.requires.5
+    sym (ap not (never_later a.message _ _ (sym k ∙ c.if-not-is_later.true) ((listed_graph b).cleared a.message.operator a.message.ride))) ∙ pair_refused b a.message c.requires.5
 
 pub returns-then-is_later : goal.returns-then-is_later
 returns-then-is_later c = let a = c.args in
@@ -49,4 +49,4 @@ returns c = let a = c.args in
     let l = rw e at c.is_later-2.ensures in
     λ index stamps' revisions' presence.
     let b = lent a.head a.operators.now a.rides.now a.stamps.now a.revisions.now index stamps' revisions' presence in
-    ap not (c.is_listed.ensures ∙ sym (later_if a.message _ _ (sym k ∙ not-false c.is_later.result c.if-not-is_later.false) (sym l ∙ c.if-is_later.false) ((listed_graph b).cleared a.message.operator a.message.ride))) ∙ pair_refused b a.message c.requires.5
+    ap not (c.is_listed.ensures ∙ sym (later_if a.message _ _ (sym k ∙ c.if-not-is_later.false) (sym l ∙ c.if-is_later.false) ((listed_graph b).cleared a.message.operator a.message.ride))) ∙ pair_refused b a.message c.requires.5
