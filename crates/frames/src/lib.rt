@@ -2,7 +2,9 @@
 // a line of text for each call.
 #![tactic(auto)]
 
-ghost use Rattle.std.specs.Prelude.{◌≤◌, ◌<◌, length, IfOk};
+ghost use Rattle.std.specs.Prelude.{◌≤◌, ◌<◌, ◌++◌, ◌∷◌, [], length, IfOk, OnOk};
+ghost use Rattle.std.specs.Fmt.{decimal};
+ghost use Rattle.std.specs.Io.KnownBytes.{Appends};
 
 use model::{Head, Message};
 use std::io;
@@ -127,11 +129,15 @@ pub fn only(condition: bool, number: usize) -> usize
 }
 
 // Writes one of a call's numbers, and a space.
-pub fn print<W: Write>(out: &mut W, number: u16) -> io::Result<()> {
+pub fn print<W: Write>(out: &mut W, number: u16) -> io::Result<()>
+    ensures { OnOk result (Appends (W.contents out.old) (W.contents out.new) (decimal number ++ 32 ∷ [])) }
+{
     write!(out, "{number} ")
 }
 
 // Writes the checksum, and ends the line.
-pub fn print_checksum<W: Write>(out: &mut W, sum: u64) -> io::Result<()> {
+pub fn print_checksum<W: Write>(out: &mut W, sum: u64) -> io::Result<()>
+    ensures { OnOk result (Appends (W.contents out.old) (W.contents out.new) (decimal sum ++ 10 ∷ [])) }
+{
     writeln!(out, "{sum}")
 }
