@@ -31,11 +31,11 @@ copy_words-requires-2 c =
 
 pub slice_bounds-answer_table-end : goal.slice_bounds-answer_table-end
 slice_bounds-answer_table-end c =
-    omega (arith, pairs_fit _ c.requires.0, c.copy_words.auto.1.1.1.0)
+    omega (arith, pairs_fit _ c.requires.0, c.copy_words.auto.to)
 
 pub slice_bounds-answer_table-end-2 : goal.slice_bounds-answer_table-end-2
 slice_bounds-answer_table-end-2 c =
-    omega (arith, pairs_fit _ c.requires.0, c.copy_words-2.auto.1.1.1.0)
+    omega (arith, pairs_fit _ c.requires.0, c.copy_words-2.auto.to)
 
 pub returns : goal.returns
 returns c =

@@ -1,5 +1,4 @@
 -- `cover_report::answer_table` meets its contract.
--- what the test of the pair arrays says of number 5
 use borrow.Author.Rules.{rules}
 use mathlib.Core.Path.{◌≡◌, sym, subst, ◌∙◌}
 use mathlib.Core.Bool.{Bool, true, false, not}
@@ -17,15 +16,17 @@ use Rattle.cover_report.proofs.Report.{table_5, table_cover}
 use Rattle.cover_text.proofs.Write.{wrote_text, wrote_most}
 use Rattle.cover_report.proofs.answer_table.Goals as goal
 
--- `cover_report::answer_table` meets its contract.
 -- what the test of the pair arrays says of number 5
 module _ (refused up : Bool) (e : up ≡ not refused) where
-  refuses : not up ≡ true → refused ≡ true
-  refuses t = not-false refused (sym e ∙ not-true up t)
+  refuses : up ≡ false → refused ≡ true
+  refuses t = not-false refused (sym e ∙ t)
+
+  accepts : up ≡ true → refused ≡ false
+  accepts t = not-true refused (sym e ∙ t)
 
 -- the first places of a list of zeros
-take-zeros : (n : ℕ) (l : List ℕ) → ((k : ℕ) → get_or l k 0 ≡ 0) → (k : ℕ) → get_or (take n l) k 0 ≡ 0
-take-zeros n l z k =
+take_zeros : (n : ℕ) (l : List ℕ) → ((k : ℕ) → get_or l k 0 ≡ 0) → (k : ℕ) → get_or (take n l) k 0 ≡ 0
+take_zeros n l z k =
     elim (dec_lt k n) [
       | yes h ↦ get_or-take n l k 0 h ∙ z k
       | no h ↦ get_or-eq_default (take n l) 0 (omega (arith, length-take n l))
@@ -42,8 +43,8 @@ returns-then-not-ascending c =
 pub put_lines-requires : goal.put_lines-requires
 put_lines-requires c =
     let a = c.args in
-    let nodes = a.h.operators + a.h.rides - 0 in (
-      (
+    let nodes = a.h.operators + a.h.rides - 0 in record {
+      accepted_pairs = (
         record {
           few_operators = c.requires.0.few_operators;
           few_rides = c.requires.0.few_rides;
@@ -53,9 +54,9 @@ put_lines-requires c =
         },
         length-take nodes (replicate 260 0) ∙ (let e : min nodes 260 ≡ a.h.operators + a.h.rides = omega arith in e),
         omega arith,
-      ),
-      take-zeros nodes (replicate 260 0) (getD_zeros 260),
-    )
+      );
+      by_index = take_zeros nodes (replicate 260 0) (getD_zeros 260);
+    }
 
 pub returns : goal.returns
 returns c =

@@ -12,7 +12,7 @@ use Rattle.cover_report.proofs.put_lines.Goals as goal
 -- `cover_report::put_lines` meets its contract.
 pub fill_levels-requires : goal.fill_levels-requires
 fill_levels-requires c =
-    ((c.requires.accepted_pairs.0, omega (arith, c.row.ensures), c.requires.accepted_pairs.1), c.requires.by_index)
+    record { accepted_pairs = (c.requires.accepted_pairs.0, omega (arith, c.row.ensures), c.requires.accepted_pairs.1); by_index = c.requires.by_index }
 
 pub returns : goal.returns
 returns c =

@@ -18,7 +18,7 @@ pub fill_rows-requires : goal.fill_rows-requires
 fill_rows-requires c = let a = c.args in
     let p = c.requires in
     let read = c.tabulate-degrees.ensures _ c.present-here.ensures in
-    ((tabulated _ _ _ _ _ read.tables read.degrees, first_length a.row.now (a.head.operators + a.head.rides) (omega (arith, p.3, p.0.few_operators, p.0.few_rides)), p.4), c.largest_of-high.ensures)
+    record { tabulated = (tabulated _ _ _ _ _ read.tables read.degrees, first_length a.row.now (a.head.operators + a.head.rides) (omega (arith, p.3, p.0.few_operators, p.0.few_rides)), p.4); by_index = c.largest_of-high.ensures }
 
 pub returns : goal.returns
 returns c = let a = c.args in

@@ -8,7 +8,7 @@ use Rattle.model.proofs.Differ.{differing_none, differing_le}
 use Rattle.graph_tables.proofs.Place.{row_inside}
 use Rattle.index_fill.proofs.Index.{row_values}
 use borrow.Rule.Slice.PartMut.{same_len_mid}
-use Prim.Native.Nat.{ℕ, suc, ◌+◌, ◌*◌, ◌≤◌, ◌-◌}
+use Prim.Native.Nat.{ℕ, suc, ◌+◌, ◌*◌, ◌<◌, ◌≤◌, ◌-◌}
 use mathlib.Core.Path.{◌≡◌, refl, sym, ap, ◌∙◌, subst}
 use mathlib.Core.List.{◌++◌}
 use native.Mathlib.Omega.{arith}
@@ -20,44 +20,40 @@ use Rattle.graph_tables.specs.Table.{table_graph}
 use Rattle.index_fill.proofs.Stored.{stored_row, differing_row, no_rows}
 use Rattle.index_fill.proofs.fill_rows.Goals as goal
 
+-- row a lies inside the index
+inside : (m a w long k : ℕ) → a < m → w ≡ k → m * k ≤ long → a * w + w ≤ long
+inside m a w long k l e h = row_inside m w a w l (omega arith) long (subst (λ (z : ℕ). m * z ≤ long) (sym e) h)
+
 pub loop-a-init : goal.loop-a-init
 loop-a-init c = let a = c.args in
     (omega arith, refl, refl, no_rows (length a.row.now) (λ (b x : ℕ). level (table_graph a.n a.m a.by_operator.now) (suc b) x) a.index.now, sym (ap (λ (k : ℕ). differing k a.index.now (rows a.m (length a.row.now) (λ (b x : ℕ). level (table_graph a.n a.m a.by_operator.now) (suc b) x))) (let e : 0 * length a.row.now ≡ 0 = omega arith in e) ∙ differing_none a.index.now (rows a.m (length a.row.now) (λ (b x : ℕ). level (table_graph a.n a.m a.by_operator.now) (suc b) x))))
 
 pub any_row-requires : goal.any_row-requires
-any_row-requires c = ((c.requires.tabulated.0, omega arith, omega (arith, c.loop-a.invariant.1, c.requires.tabulated.1)), c.requires.by_index)
+any_row-requires c = record { tabulated = (c.requires.tabulated.0, omega arith, omega (arith, c.loop-a.invariant.1, c.requires.tabulated.1)); by_index = c.requires.by_index }
 
 pub overflow_mul-at : goal.overflow_mul-at
 overflow_mul-at c = omega (
   arith,
-  ((let q : (let a = c.args in let w = length a.row.now in c.loop-a.a * w + w ≤ length a.index.now) = let a = c.args in
-      let w = length a.row.now in
-      row_inside a.m w c.loop-a.a w (omega arith) (omega arith) (length a.index.now) (subst (λ (z : ℕ). a.m * z ≤ length a.index.now) (sym c.requires.tabulated.1) c.requires.tabulated.2) in q)),
+  (inside c.args.m c.loop-a.a (length c.args.row.now) (length c.args.index.now) _ (omega arith) c.requires.tabulated.1 c.requires.tabulated.2),
 )
 
 pub overflow_add-end : goal.overflow_add-end
 overflow_add-end c = omega (
   arith,
-  ((let q : (let a = c.args in let w = length a.row.now in c.loop-a.a * w + w ≤ length a.index.now) = let a = c.args in
-      let w = length a.row.now in
-      row_inside a.m w c.loop-a.a w (omega arith) (omega arith) (length a.index.now) (subst (λ (z : ℕ). a.m * z ≤ length a.index.now) (sym c.requires.tabulated.1) c.requires.tabulated.2) in q)),
+  (inside c.args.m c.loop-a.a (length c.args.row.now) (length c.args.index.now) _ (omega arith) c.requires.tabulated.1 c.requires.tabulated.2),
 )
 
 pub offset_bounds-index-at : goal.offset_bounds-index-at
 offset_bounds-index-at c = omega (
   arith,
-  ((let q : (let a = c.args in let w = length a.row.now in c.loop-a.a * w + w ≤ length a.index.now) = let a = c.args in
-      let w = length a.row.now in
-      row_inside a.m w c.loop-a.a w (omega arith) (omega arith) (length a.index.now) (subst (λ (z : ℕ). a.m * z ≤ length a.index.now) (sym c.requires.tabulated.1) c.requires.tabulated.2) in q)),
+  (inside c.args.m c.loop-a.a (length c.args.row.now) (length c.args.index.now) _ (omega arith) c.requires.tabulated.1 c.requires.tabulated.2),
   c.ranges,
 )
 
 pub slice_bounds-store-end : goal.slice_bounds-store-end
 slice_bounds-store-end c = let l = c.loop-a in
     let w = length c.args.row.now in
-    subst (λ (k : ℕ). l.a * w + w ≤ k) (sym l.invariant.2) ((let q : (let a = c.args in let w = length a.row.now in c.loop-a.a * w + w ≤ length a.index.now) = let a = c.args in
-    let w = length a.row.now in
-    row_inside a.m w c.loop-a.a w (omega arith) (omega arith) (length a.index.now) (subst (λ (z : ℕ). a.m * z ≤ length a.index.now) (sym c.requires.tabulated.1) c.requires.tabulated.2) in q))
+    subst (λ (k : ℕ). l.a * w + w ≤ k) (sym l.invariant.2) (inside c.args.m c.loop-a.a (length c.args.row.now) (length c.args.index.now) _ (omega arith) c.requires.tabulated.1 c.requires.tabulated.2)
 
 pub overflow_add-differ : goal.overflow_add-differ
 overflow_add-differ c = let a = c.args in
