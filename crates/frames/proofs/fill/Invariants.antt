@@ -1,3 +1,4 @@
+-- `frames::fill` meets its contract. The loop's invariant: what is read fits the buffer, and less room is left with each round.
 use Rattle.std.proofs.Common.{length, ◌-◌, ◌≤◌}
 use Rattle.frames.proofs.fill.Given as goal
 
