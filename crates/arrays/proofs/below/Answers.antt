@@ -5,7 +5,6 @@ use borrow.Author.Tests.{lt-ltb, le-ltb}
 use Rattle.model.specs.Count.{bit}
 use Rattle.arrays.proofs.below.Goals as goal
 
--- `arrays::below` meets its contract.
 pub returns-then-a-b : goal.returns-then-a-b
 returns-then-a-b c = sym (ap bit (lt-ltb _ _ c.if-a-b.true))
 

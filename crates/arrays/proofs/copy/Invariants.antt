@@ -1,11 +1,8 @@
 -- `arrays::copy` meets its contract. The loop's invariant: the first i words are copied.
-use borrow.Author.Rules.{rules}
 use Prim.Native.Nat.{◌≤◌, ◌-◌}
-use mathlib.Core.Path.{◌≡◌, refl}
+use mathlib.Core.Path.{◌≡◌}
 use mathlib.Core.List.{◌++◌}
-use lib.ListN.{length, take, drop, length-set}
-use native.Mathlib.Omega.{arith}
-use Rattle.model.proofs.Store.{copied_more}
+use lib.ListN.{length, take, drop}
 use Rattle.arrays.proofs.copy.Given as goal
 
 abbrev pub invariant-loop-i : goal.invariant-loop-i

@@ -1,9 +1,6 @@
 -- `arrays::copy_bytes` meets its contract. The loop's invariant: the first i bytes are copied.
-use borrow.Author.Rules.{rules}
-use Prim.Native.Nat.{◌≤◌, ◌-◌}
 use mathlib.Core.Path.{◌≡◌, refl}
-use mathlib.Core.List.{◌++◌}
-use lib.ListN.{length, take, drop, length-set}
+use lib.ListN.{length-set}
 use native.Mathlib.Omega.{arith}
 use Rattle.model.proofs.Store.{copied_more}
 use Rattle.arrays.proofs.copy_bytes.Goals as goal

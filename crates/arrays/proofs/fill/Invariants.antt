@@ -1,11 +1,8 @@
 -- `arrays::fill` meets its contract. The loop's invariant: the places from the first one up to i have the value, the others are as they came.
-use borrow.Author.Rules.{rules}
-use Prim.Native.Nat.{ℕ, ◌≤◌, ◌-◌}
-use mathlib.Core.Path.{◌≡◌, refl, ap, ◌∙◌}
-use mathlib.Core.List.{List, ◌++◌}
-use native.Mathlib.Omega.{arith}
-use lib.ListN.{length, set, take, drop, replicate, length-set}
-use Rattle.arrays.proofs.Filled.{fill_none, fill_more, fill_done}
+use Prim.Native.Nat.{◌≤◌, ◌-◌}
+use mathlib.Core.Path.{◌≡◌}
+use mathlib.Core.List.{◌++◌}
+use lib.ListN.{length, take, drop, replicate}
 use Rattle.arrays.proofs.fill.Given as goal
 
 abbrev pub invariant-loop-i : goal.invariant-loop-i

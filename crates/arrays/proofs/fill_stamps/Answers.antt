@@ -1,10 +1,9 @@
 -- `arrays::fill_stamps` meets its contract. The loop's invariant: the places from the first one up to i have the value, the others are as they came.
-use borrow.Author.Rules.{rules}
-use Prim.Native.Nat.{ℕ, ◌≤◌, ◌-◌}
-use mathlib.Core.Path.{◌≡◌, refl, ap, ◌∙◌}
-use mathlib.Core.List.{List, ◌++◌}
+use Prim.Native.Nat.{ℕ}
+use mathlib.Core.Path.{refl, ap, ◌∙◌}
+use mathlib.Core.List.{List}
 use native.Mathlib.Omega.{arith}
-use lib.ListN.{length, set, take, drop, replicate, length-set}
+use lib.ListN.{set, length-set}
 use Rattle.arrays.proofs.Filled.{fill_none, fill_more, fill_done}
 use Rattle.arrays.proofs.fill_stamps.Goals as goal
 

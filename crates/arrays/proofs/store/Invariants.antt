@@ -1,17 +1,9 @@
 -- `arrays::store` meets its contract. The loop's invariant: the first i words are stored, and differ counts those that differ.
-use borrow.Author.Rules.{rules}
-use Rattle.model.proofs.Count.{bit_le}
-use Rattle.model.proofs.Differ.{differing_none, differing_more, differing_le}
-use mathlib.Core.Bool.{not}
-use lib.Dec.{eqb}
-use lib.Seq.{ext_get_or}
 use Rattle.model.specs.Layout.{differing}
-use Prim.Native.Nat.{ℕ, ◌≤◌, ◌-◌}
-use mathlib.Core.Path.{◌≡◌, refl, sym, ap, ◌∙◌}
-use native.Mathlib.Omega.{arith}
-use lib.ListN.{length, get_or, length-set}
-use Rattle.model.specs.Count.{bit}
-use Rattle.arrays.proofs.Storing.{Storing, storing_start, storing_more}
+use Prim.Native.Nat.{◌≤◌, ◌-◌}
+use mathlib.Core.Path.{◌≡◌}
+use lib.ListN.{length, get_or}
+use Rattle.arrays.proofs.Storing.{Storing}
 use Rattle.arrays.proofs.store.Given as goal
 
 abbrev pub invariant-loop-i : goal.invariant-loop-i

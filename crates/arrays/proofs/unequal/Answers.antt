@@ -5,7 +5,6 @@ use borrow.Author.Tests.{eq-eqb, ne_eqb}
 use Rattle.model.specs.Count.{bit}
 use Rattle.arrays.proofs.unequal.Goals as goal
 
--- `arrays::unequal` meets its contract.
 pub returns-then-a-b : goal.returns-then-a-b
 returns-then-a-b c = sym (ap (λ (b : Bool). bit (not b)) (eq-eqb c.args.a c.args.b c.if-a-b.true))
 

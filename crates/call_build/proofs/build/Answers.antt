@@ -1,10 +1,8 @@
 -- `call_build::build` meets its contract: it refuses, or stamps the pairs, zeroes the revisions, sets everybody on and in, fills the index and zeroes the
 -- tails.
--- the board that the call was lent
-use borrow.Author.Rules.{rules}
 use mathlib.Core.Path.{◌≡◌, sym, ◌∙◌}
 use native.Mathlib.Omega.{arith}
-use Rattle.model.specs.Layout.{Operators, Rides, Stamps, Revisions, Index, PresenceStamps, PresenceRevisions, Presence, Board, lent}
+use Rattle.model.specs.Layout.{Operators, Rides, Stamps, Revisions, Index, PresenceStamps, PresenceRevisions, Presence, lent}
 use Rattle.model.specs.Refusal.{build_refusal}
 use Rattle.model.proofs.Refusal.{AcceptedTable}
 use Rattle.pairs.specs.Accepted.{AcceptedPairs}

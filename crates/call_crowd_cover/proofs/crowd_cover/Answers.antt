@@ -1,11 +1,9 @@
 -- `call_crowd_cover::crowd_cover` meets its contract: it refuses, or finds the cover for the limits of the look-up.
-use borrow.Author.Rules.{rules}
 use mathlib.Core.Path.{refl}
 use native.Mathlib.Omega.{arith}
 use Rattle.call_crowd_cover.proofs.Outcomes.{refused_board, accepted, refused_bands, found}
 use Rattle.call_crowd_cover.proofs.crowd_cover.Goals as goal
 
--- `call_crowd_cover::crowd_cover` meets its contract: it refuses, or finds the cover for the limits of the look-up.
 pub returns-then-number-ne0 : goal.returns-then-number-ne0
 returns-then-number-ne0 c = let a = c.args in
     refused_board a.head a.operators.now a.rides.now a.presence.now _ a.guests a.minimums.now a.marks.now _ c.lent_number-number.ensures (omega arith) _ c.refused.ensures

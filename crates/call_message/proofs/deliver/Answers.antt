@@ -1,12 +1,10 @@
 -- `call_message::deliver` meets its contract: the message is refused, or taken.
-use borrow.Author.Rules.{rules}
-use mathlib.Core.Path.{◌≡◌, sym, ◌∙◌, refl}
+use mathlib.Core.Path.{◌≡◌, sym, ◌∙◌}
 use native.Mathlib.Omega.{arith}
 use Rattle.model.specs.Layout.{lent}
 use Rattle.call_message.proofs.Refused.{deliver_refused}
 use Rattle.call_message.proofs.deliver.Goals as goal
 
--- `call_message::deliver` meets its contract: the message is refused, or taken.
 pub returns-then-number-ne0 : goal.returns-then-number-ne0
 returns-then-number-ne0 c = let a = c.args in deliver_refused (lent a.head a.operators.now a.rides.now a.stamps.now a.revisions.now a.index.now a.presence_stamps.now a.presence_revisions.now a.presence.now) a.message _ c.message_number-number.ensures (omega arith)
 

@@ -1,5 +1,4 @@
 -- `call_message_list::list_turns` meets its contract.
-use borrow.Author.Rules.{rules}
 use mathlib.Core.Path.{◌∙◌, ap}
 use Prim.Native.Nat.{ℕ}
 use native.Mathlib.Omega.{arith}
@@ -7,7 +6,6 @@ use Rattle.call_message_list.specs.Once.{turns_of}
 use Rattle.call_message_list.proofs.Once.{all_turns, no_turns}
 use Rattle.call_message_list.proofs.list_turns.Goals as goal
 
--- `call_message_list::list_turns` meets its contract.
 pub returns-then-code-eq0 : goal.returns-then-code-eq0
 returns-then-code-eq0 c = let m = c.args.messages in all_turns _ m (omega arith) ∙ ap (λ (k : ℕ). turns_of k m) c.list_number-code.ensures
 

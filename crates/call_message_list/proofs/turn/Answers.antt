@@ -1,8 +1,7 @@
 -- `call_message_list::turn` meets its contract: the message is entered and its number stored, and after the last message the index is filled.
-use borrow.Author.Rules.{rules}
 use native.Mathlib.Omega.{arith}
 use lib.ListN.{length-set}
-use Rattle.model.specs.Layout.{Board, lent}
+use Rattle.model.specs.Layout.{lent}
 use Rattle.call_message_list.proofs.Once.{turn_room, turn_answers, turn_ready, turn_done}
 use Rattle.call_message_list.proofs.turn.Goals as goal
 

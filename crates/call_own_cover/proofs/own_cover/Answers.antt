@@ -1,10 +1,8 @@
 -- `call_own_cover::own_cover` meets its contract: it refuses, or finds the cover with minimums.
-use borrow.Author.Rules.{rules}
 use native.Mathlib.Omega.{arith}
 use Rattle.call_own_cover.proofs.Outcomes.{accepted, refused, found}
 use Rattle.call_own_cover.proofs.own_cover.Goals as goal
 
--- `call_own_cover::own_cover` meets its contract: it refuses, or finds the cover with minimums.
 pub returns-then-number-ne0 : goal.returns-then-number-ne0
 returns-then-number-ne0 c = let a = c.args in
     refused a.head a.operators.now a.rides.now a.presence.now a.minimums.now a.marks.now _ c.lent_number-number.ensures a.alpha a.beta (omega arith) _ c.refused.ensures

@@ -1,5 +1,4 @@
 -- `call_peel::peel` meets its contract: it refuses, or peels over new tables.
-use borrow.Author.Rules.{rules}
 use mathlib.Core.Path.{◌≡◌, sym, ◌∙◌}
 use native.Mathlib.Omega.{arith}
 use Rattle.graph_tables.proofs.Held.{zero_tables}
@@ -7,7 +6,6 @@ use Rattle.model.specs.Refusal.{peel_refusal}
 use Rattle.call_peel.proofs.Peels.{peel_refused, peel_done, peel_accepted}
 use Rattle.call_peel.proofs.peel.Goals as goal
 
--- `call_peel::peel` meets its contract: it refuses, or peels over new tables.
 pub returns-then-number-ne0 : goal.returns-then-number-ne0
 returns-then-number-ne0 c = let a = c.args in
     peel_refused a.head a.operators.now a.rides.now a.presence.now a.minimums.now a.marks.now a.alpha a.beta a.steps _ c.peel_number-number.ensures (omega arith)

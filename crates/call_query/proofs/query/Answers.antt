@@ -1,5 +1,4 @@
 -- `call_query::query` meets its contract: it refuses, or the index has no such row and the levels are 0, or one row of the index is read.
-use borrow.Author.Rules.{rules}
 use mathlib.Core.Path.{◌≡◌, sym, ◌∙◌}
 use Prim.Native.Nat.{ℕ}
 use native.Mathlib.Omega.{arith}
@@ -9,7 +8,6 @@ use Rattle.model.specs.Refusal.{query_refusal}
 use Rattle.call_query.proofs.Queries.{query_refused, query_long, query_done, row_end, row_start, row_wide, row_levels, zeros_levels}
 use Rattle.call_query.proofs.query.Goals as goal
 
--- `call_query::query` meets its contract: it refuses, or the index has no such row and the levels are 0, or one row of the index is read.
 pub returns-then-number-ne0 : goal.returns-then-number-ne0
 returns-then-number-ne0 c = let a = c.args in
     query_refused a.head a.index.now a.presence.now a.marks.now a.alpha a.beta _ c.query_number-number.ensures (omega arith)

@@ -1,15 +1,14 @@
 -- `cover_input::copy_words` meets its contract. The invariant: the first i words are stored.
-use borrow.Author.Rules.{rules}
 use mathlib.Core.Path.{◌≡◌, refl, sym, ap₂, ◌∙◌}
 use mathlib.Core.List.{List, ◌++◌}
-use Prim.Native.Nat.{ℕ, ◌≤◌, ◌+◌, ◌-◌}
+use Prim.Native.Nat.{ℕ, ◌+◌, ◌-◌}
 use native.Mathlib.Omega.{arith}
-use lib.ListN.{length, set, take, drop, length-set}
+use lib.ListN.{length, set, drop, length-set}
 use lib.Seq.{take_all}
 use Rattle.model.specs.Count.{values}
 use Rattle.model.proofs.Count.{length_values, getD_values}
 use Rattle.model.proofs.Store.{copied_more}
-use Rattle.cover_input.specs.Input.{word, words_from}
+use Rattle.cover_input.specs.Input.{word}
 use Rattle.cover_input.proofs.copy_words.Goals as goal
 
 pub loop-i-init : goal.loop-i-init

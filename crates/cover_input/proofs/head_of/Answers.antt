@@ -1,7 +1,5 @@
 -- `cover_input::head_of` meets its contract.
-use borrow.Author.Rules.{rules}
 use Rattle.cover_input.proofs.head_of.Goals as goal
 
--- `cover_input::head_of` meets its contract.
 pub returns : goal.returns
 returns c = λ k. record { operators = c.word_at.ensures k; rides = c.word_at-2.ensures k; pairs = c.word_at-3.ensures k }

@@ -1,5 +1,4 @@
 -- `cover_input::head_refusal` meets its contract: 1, 2 and 4 of a head whose lengths aren't asked, and then 13.
-use borrow.Author.Rules.{rules}
 use mathlib.Core.Path.{◌≡◌, refl, sym, ap, ◌∙◌}
 use mathlib.Core.Logic.{◌≢◌}
 use mathlib.Core.Bool.{Bool, false, not}

@@ -1,5 +1,4 @@
 -- `cover_input::size_refusal` meets its contract.
-use borrow.Author.Rules.{rules}
 use mathlib.Core.Path.{ap, ◌∙◌}
 use borrow.Author.Tests.{lt-ltb}
 use lib.ListN.{length}
@@ -8,7 +7,6 @@ use Rattle.model.specs.Refusal.{first_number}
 use Rattle.cover_input.specs.Input.{size_cases}
 use Rattle.cover_input.proofs.size_refusal.Goals as goal
 
--- `cover_input::size_refusal` meets its contract.
 pub returns-then-input-lt6 : goal.returns-then-input-lt6
 unfolding first_number
 returns-then-input-lt6 c = simp (lt-ltb _ _ c.if-input-lt6.true)

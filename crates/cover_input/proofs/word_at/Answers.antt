@@ -1,10 +1,8 @@
 -- `cover_input::word_at` meets its contract.
-use borrow.Author.Rules.{rules}
 use Prim.Native.Nat.{◌+◌, ◌*◌}
 use native.Mathlib.Omega.{arith}
 use Rattle.cover_input.proofs.word_at.Goals as goal
 
--- `cover_input::word_at` meets its contract.
 pub overflow_cast-result : goal.overflow_cast-result
 overflow_cast-result c = omega (arith, c.shared_slice_known-1.given (2 * c.args.i))
 

@@ -1,14 +1,8 @@
 -- `cover_lines::count_members` meets its contract. The invariant: those of the first i nodes are counted.
-use borrow.Author.Rules.{rules}
-use mathlib.Core.Path.{◌≡◌, ap}
-use mathlib.Core.Bool.{Bool}
-use mathlib.Core.Logic.{⊎_elim}
-use Prim.Native.Nat.{ℕ, ◌≤◌, ◌-◌}
-use native.Mathlib.Omega.{arith}
-use borrow.Author.Tests.{le-leb, lt-leb}
-use Rattle.model.specs.Count.{bit, count}
-use Rattle.model.proofs.Count.{count_more}
-use Rattle.index_members.specs.Members.{level_at, member_at}
+use mathlib.Core.Path.{◌≡◌}
+use Prim.Native.Nat.{◌≤◌, ◌-◌}
+use Rattle.model.specs.Count.{count}
+use Rattle.index_members.specs.Members.{member_at}
 use Rattle.cover_lines.proofs.count_members.Given as goal
 
 abbrev pub invariant-loop-i : goal.invariant-loop-i

@@ -1,11 +1,9 @@
 -- `cover_lines::put_cover` meets its contract.
-use borrow.Author.Rules.{rules}
 use native.Mathlib.Omega.{arith}
 use Rattle.cover_lines.proofs.Lines.{row_text}
 use Rattle.cover_text.proofs.Write.{wrote_append, wrote_text, wrote_most}
 use Rattle.cover_lines.proofs.put_cover.Goals as goal
 
--- `cover_lines::put_cover` meets its contract.
 pub returns : goal.returns
 returns c =
     let a = c.args in

@@ -1,11 +1,9 @@
 -- `cover_lines::put_member` meets its contract.
-use borrow.Author.Rules.{rules}
 use native.Mathlib.Omega.{arith}
 use borrow.Author.Tests.{le-leb, lt-leb}
 use Rattle.cover_text.proofs.Write.{wrote_none, wrote_most}
 use Rattle.cover_lines.proofs.put_member.Goals as goal
 
--- `cover_lines::put_member` meets its contract.
 pub returns-then-least-level : goal.returns-then-least-level
 returns-then-least-level c =
     let a = c.args in

@@ -1,17 +1,11 @@
 -- `cover_lines::put_members` meets its contract. The invariant: the lines of the first i nodes are written.
 -- one node more
-use borrow.Author.Rules.{rules}
-use mathlib.Core.Path.{◌≡◌, ◌∙◌}
-use mathlib.Core.Bool.{Bool}
-use mathlib.Core.List.{List}
-use Prim.Native.Nat.{ℕ, suc, ◌≤◌, ◌+◌, ◌*◌, ◌-◌}
-use native.Mathlib.Numerals.{add-one}
-use native.Mathlib.Omega.{arith}
+use mathlib.Core.Path.{◌≡◌}
+use Prim.Native.Nat.{◌≤◌, ◌*◌, ◌-◌}
 use lib.ListN.{length}
-use Rattle.cover_text.specs.Text.{member_line, member_lines}
+use Rattle.cover_text.specs.Text.{member_lines}
 use Rattle.cover_text.specs.Write.{Wrote}
 use Rattle.index_members.specs.Members.{level_at, member_at}
-use Rattle.cover_text.proofs.Write.{wrote_append, wrote_most}
 use Rattle.cover_lines.proofs.put_members.Given as goal
 
 abbrev pub invariant-loop-i : goal.invariant-loop-i

@@ -1,5 +1,4 @@
 -- `cover_report::answer` meets its contract.
-use borrow.Author.Rules.{rules}
 use mathlib.Core.Path.{◌≡◌, sym, ap, subst, ◌∙◌}
 use Prim.Native.Nat.{◌+◌, ◌*◌}
 use native.Mathlib.Omega.{arith}
@@ -12,7 +11,6 @@ use Rattle.cover_text.proofs.Write.{wrote_most}
 use Rattle.cover_report.proofs.Report.{reported}
 use Rattle.cover_report.proofs.answer.Goals as goal
 
--- `cover_report::answer` meets its contract.
 pub returns-then-number-ne0 : goal.returns-then-number-ne0
 returns-then-number-ne0 c =
     let a = c.args in

@@ -1,6 +1,5 @@
 -- `cover_report::answer_input` meets its contract.
 -- the words that were copied, lent as a part of the array
-use borrow.Author.Rules.{rules}
 use mathlib.Core.Path.{◌≡◌, ap, ◌∙◌}
 use mathlib.Core.List.{List}
 use Prim.Native.Nat.{ℕ, ◌+◌, ◌-◌}
@@ -14,8 +13,6 @@ use Rattle.cover_report.proofs.Sizes.{pairs_fit}
 use Rattle.cover_text.proofs.Write.{wrote_text}
 use Rattle.cover_report.proofs.answer_input.Goals as goal
 
--- `cover_report::answer_input` meets its contract.
--- the words that were copied, lent as a part of the array
 part : (input : List ℕ) (start n : ℕ) (old new : List ℕ) → new ≡ over (words_from input start n) old → take (n - 0) (drop 0 new) ≡ words_from input start n
 part input start n old new e =
     ap (λ (x : List ℕ). take (n - 0) x) e ∙

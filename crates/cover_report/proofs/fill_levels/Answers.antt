@@ -1,5 +1,4 @@
 -- `cover_report::fill_levels` meets its contract: tables of zeros are filled, and one row from them.
-use borrow.Author.Rules.{rules}
 use mathlib.Core.Path.{◌∙◌}
 use native.Mathlib.Omega.{arith}
 use Rattle.model.specs.Layout.{graph}
@@ -9,7 +8,6 @@ use Rattle.cover_report.proofs.Filled.{everybody_here, held_row}
 use Rattle.cover_report.proofs.Report.{row_above}
 use Rattle.cover_report.proofs.fill_levels.Goals as goal
 
--- `cover_report::fill_levels` meets its contract: tables of zeros are filled, and one row from them.
 pub tabulate-degrees-requires : goal.tabulate-degrees-requires
 tabulate-degrees-requires c = let p = c.requires.accepted_pairs.0 in (p, (_, everybody_here _ (omega (arith, p.few_operators, p.few_rides))), zero_tables)
 

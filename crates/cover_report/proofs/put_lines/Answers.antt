@@ -1,5 +1,4 @@
 -- `cover_report::put_lines` meets its contract.
-use borrow.Author.Rules.{rules}
 use mathlib.Core.Path.{ap, ◌∙◌}
 use Prim.Native.Nat.{ℕ}
 use native.Mathlib.Omega.{arith}
@@ -9,7 +8,6 @@ use Rattle.cover_report.proofs.Report.{report_row}
 use Rattle.cover_text.proofs.Write.{wrote_text}
 use Rattle.cover_report.proofs.put_lines.Goals as goal
 
--- `cover_report::put_lines` meets its contract.
 pub fill_levels-requires : goal.fill_levels-requires
 fill_levels-requires c =
     record { accepted_pairs = (c.requires.accepted_pairs.0, omega (arith, c.row.ensures), c.requires.accepted_pairs.1); by_index = c.requires.by_index }

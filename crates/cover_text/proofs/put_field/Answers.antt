@@ -1,9 +1,7 @@
 -- `cover_text::put_field` meets its contract.
-use borrow.Author.Rules.{rules}
 use Rattle.cover_text.proofs.Write.{wrote_byte, wrote_append}
 use Rattle.cover_text.proofs.put_field.Goals as goal
 
--- `cover_text::put_field` meets its contract.
 pub returns : goal.returns
 returns c =
     let number = c.put_number-end in

@@ -1,10 +1,8 @@
 -- `cover_text::put_first` meets its contract.
-use borrow.Author.Rules.{rules}
 use Rattle.cover_text.specs.Text.{first_line}
 use Rattle.cover_text.proofs.Write.{wrote_append}
 use Rattle.cover_text.proofs.put_first.Goals as goal
 
--- `cover_text::put_first` meets its contract.
 pub returns : goal.returns
 unfolding first_line
 returns c =

@@ -1,11 +1,9 @@
 -- `cover_text::put_node` meets its contract.
-use borrow.Author.Rules.{rules}
 use native.Mathlib.Omega.{arith}
 use Rattle.cover_text.specs.Text.{node_line}
 use Rattle.cover_text.proofs.Write.{wrote_append, wrote_most}
 use Rattle.cover_text.proofs.put_node.Goals as goal
 
--- `cover_text::put_node` meets its contract.
 pub returns : goal.returns
 unfolding node_line
 returns c =

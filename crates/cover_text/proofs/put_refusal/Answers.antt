@@ -1,10 +1,8 @@
 -- `cover_text::put_refusal` meets its contract.
-use borrow.Author.Rules.{rules}
 use Rattle.cover_text.specs.Text.{refusal_line}
 use Rattle.cover_text.proofs.Write.{wrote_append}
 use Rattle.cover_text.proofs.put_refusal.Goals as goal
 
--- `cover_text::put_refusal` meets its contract.
 pub returns : goal.returns
 unfolding refusal_line
 returns c =

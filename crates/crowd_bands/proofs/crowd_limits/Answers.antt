@@ -1,8 +1,6 @@
 -- `crowd_bands::crowd_limits` meets its contract.
-use borrow.Author.Rules.{rules}
 use mathlib.Core.Path.{refl}
 use Rattle.crowd_bands.proofs.crowd_limits.Goals as goal
 
--- `crowd_bands::crowd_limits` meets its contract.
 pub returns : goal.returns
 returns c = c.find-found.ensures _ refl c.words-all.ensures

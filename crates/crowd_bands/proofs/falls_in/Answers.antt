@@ -2,7 +2,6 @@
 use borrow.Author.Tests.{le-leb, lt-leb}
 use Rattle.crowd_bands.proofs.falls_in.Goals as goal
 
--- `crowd_bands::falls_in` meets its contract.
 pub returns-then-first-guests : goal.returns-then-first-guests
 returns-then-first-guests c = rw (le-leb _ _ c.if-first-guests.true)
 

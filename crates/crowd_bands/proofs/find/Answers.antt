@@ -1,11 +1,9 @@
 -- `crowd_bands::find` meets its contract: 16, 17 and 18 in turn, and else the limits of the band.
-use borrow.Author.Rules.{rules}
 use native.Mathlib.Omega.{arith}
 use Rattle.model.proofs.Search.{passes, fails}
 use Rattle.crowd_bands.proofs.Looked.{found_out, most, found_malformed, ordered, found_overlap, found_gap, below, found}
 use Rattle.crowd_bands.proofs.find.Goals as goal
 
--- `crowd_bands::find` meets its contract: 16, 17 and 18 in turn, and else the limits of the band.
 pub returns-then-out_of_range : goal.returns-then-out_of_range
 returns-then-out_of_range c = let a = c.args in λ t e w. found_out t a.words.now w a.count e a.guests _ c.refused.ensures (passes _ _ c.out_of_range.ensures c.if-out_of_range.true)
 

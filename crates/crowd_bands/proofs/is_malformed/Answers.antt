@@ -2,7 +2,6 @@
 use borrow.Author.Tests.{lt-ltb, le-ltb}
 use Rattle.crowd_bands.proofs.is_malformed.Goals as goal
 
--- `crowd_bands::is_malformed` meets its contract.
 pub returns-then-last-first : goal.returns-then-last-first
 returns-then-last-first c = rw (lt-ltb _ _ c.if-last-first.true)
 

@@ -1,10 +1,9 @@
 -- `crowd_bands::malformed` meets its contract. The loop's invariant: none of the first i bands is malformed.
-use borrow.Author.Rules.{rules}
-use Prim.Native.Nat.{◌≤◌, ◌-◌}
+use Prim.Native.Nat.{◌-◌}
 use native.Mathlib.Omega.{arith}
 use borrow.Author.Count.{below_more}
 use Rattle.crowd_bands.specs.Bands.{malformed_at}
-use Rattle.model.proofs.Search.{passes, fails, NoneBefore, some_true, some_false}
+use Rattle.model.proofs.Search.{passes, fails, some_true, some_false}
 use Rattle.crowd_bands.proofs.malformed.Goals as goal
 
 pub loop-i-init : goal.loop-i-init

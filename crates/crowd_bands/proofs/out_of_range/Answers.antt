@@ -2,7 +2,6 @@
 use borrow.Author.Tests.{lt-ltb, le-ltb}
 use Rattle.crowd_bands.proofs.out_of_range.Goals as goal
 
--- `crowd_bands::out_of_range` meets its contract.
 pub returns-then-count-lt1 : goal.returns-then-count-lt1
 returns-then-count-lt1 c = rw (lt-ltb _ _ c.if-count-lt1.true)
 

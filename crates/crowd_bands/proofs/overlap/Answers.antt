@@ -1,10 +1,9 @@
 -- `crowd_bands::overlap` meets its contract. The loop's invariant: none of the first i bands shares a guest count with one before it.
-use borrow.Author.Rules.{rules}
-use Prim.Native.Nat.{◌≤◌, ◌-◌}
+use Prim.Native.Nat.{◌-◌}
 use native.Mathlib.Omega.{arith}
 use borrow.Author.Count.{below_more}
 use Rattle.crowd_bands.specs.Bands.{shares_earlier}
-use Rattle.model.proofs.Search.{passes, fails, NoneBefore, some_true, some_false}
+use Rattle.model.proofs.Search.{passes, fails, some_true, some_false}
 use Rattle.crowd_bands.proofs.overlap.Goals as goal
 
 pub loop-i-init : goal.loop-i-init

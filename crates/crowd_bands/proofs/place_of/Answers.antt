@@ -1,11 +1,10 @@
 -- `crowd_bands::place_of` meets its contract. The loop's invariant: the guest count falls in none of the first i bands.
-use borrow.Author.Rules.{rules}
 use mathlib.Core.Path.{refl}
-use Prim.Native.Nat.{◌≤◌, ◌-◌}
+use Prim.Native.Nat.{◌-◌}
 use native.Mathlib.Omega.{arith}
 use borrow.Author.Count.{below_more}
 use Rattle.crowd_bands.specs.Bands.{falls_at}
-use Rattle.model.proofs.Search.{passes, fails, NoneBefore, lowest_found, lowest_none}
+use Rattle.model.proofs.Search.{passes, fails, lowest_found, lowest_none}
 use Rattle.crowd_bands.proofs.place_of.Goals as goal
 
 pub loop-i-init : goal.loop-i-init

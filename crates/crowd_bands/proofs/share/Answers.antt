@@ -2,7 +2,6 @@
 use borrow.Author.Tests.{le-leb, lt-leb}
 use Rattle.crowd_bands.proofs.share.Goals as goal
 
--- `crowd_bands::share` meets its contract.
 pub returns-then-first-other_last : goal.returns-then-first-other_last
 returns-then-first-other_last c = rw (le-leb _ _ c.if-first-other_last.true)
 

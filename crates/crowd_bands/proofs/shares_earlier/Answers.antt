@@ -1,10 +1,9 @@
 -- `crowd_bands::shares_earlier` meets its contract. The loop's invariant: band i shares no guest count with one of the first j.
-use borrow.Author.Rules.{rules}
-use Prim.Native.Nat.{◌≤◌, ◌-◌}
+use Prim.Native.Nat.{◌-◌}
 use native.Mathlib.Omega.{arith}
 use borrow.Author.Count.{below_more}
 use Rattle.crowd_bands.specs.Bands.{share}
-use Rattle.model.proofs.Search.{passes, fails, NoneBefore, some_true, some_false}
+use Rattle.model.proofs.Search.{passes, fails, some_true, some_false}
 use Rattle.crowd_bands.proofs.shares_earlier.Goals as goal
 
 pub loop-j-init : goal.loop-j-init

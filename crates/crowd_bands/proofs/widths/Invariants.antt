@@ -1,10 +1,7 @@
 -- `crowd_bands::widths` meets its contract. The loop's invariant: the guest counts of the first i bands are added up.
-use borrow.Author.Rules.{rules}
-use mathlib.Core.Path.{◌≡◌, sym, ap, ◌∙◌}
+use mathlib.Core.Path.{◌≡◌}
 use Prim.Native.Nat.{◌≤◌, ◌-◌, ◌*◌}
-use native.Mathlib.Omega.{arith}
 use Rattle.crowd_bands.specs.Bands.{widths as added_up}
-use Rattle.crowd_bands.proofs.Stored.{widths_none, widths_more}
 use Rattle.crowd_bands.proofs.widths.Given as goal
 
 abbrev pub invariant-loop-i : goal.invariant-loop-i

@@ -1,10 +1,7 @@
 -- `crowd_bands::words` meets its contract. The loop's invariant: the words of the first i bands are stored.
-use borrow.Author.Rules.{rules}
 use mathlib.Core.Path.{◌≡◌, refl, sym, ◌∙◌}
-use Prim.Native.Nat.{◌≤◌, ◌-◌}
+use Prim.Native.Nat.{◌-◌}
 use native.Mathlib.Omega.{arith}
-use lib.ListN.{length}
-use Rattle.crowd_bands.specs.Bands.{WordsUpTo}
 use Rattle.crowd_bands.proofs.Stored.{words_none, put_length, words_more}
 use Rattle.crowd_bands.proofs.words.Goals as goal
 

@@ -4,7 +4,6 @@ use borrow.Author.Tests.{eq-eqb, ne_eqb}
 use Rattle.model.specs.Count.{bit}
 use Rattle.graph_degrees.proofs.is_one.Goals as goal
 
--- `graph_degrees::is_one` meets its contract.
 pub returns-then-word-eq1 : goal.returns-then-word-eq1
 returns-then-word-eq1 c = sym (ap bit (eq-eqb _ _ c.if-word-eq1.true))
 

@@ -1,12 +1,9 @@
 -- `graph_degrees::present` meets its contract. The loop's invariant: the first x bytes are written.
-use borrow.Author.Rules.{rules}
-use mathlib.Core.Path.{◌≡◌, refl}
+use mathlib.Core.Path.{◌≡◌}
 use Prim.Native.Nat.{ℕ, ◌-◌, ◌≤◌, ◌<◌}
-use native.Mathlib.Omega.{arith}
-use lib.ListN.{length, get_or, length-set}
+use lib.ListN.{length, get_or}
 use Rattle.model.specs.Count.{bit}
 use Rattle.model.specs.Graph.{present}
-use Rattle.model.proofs.Store.{stored}
 use Rattle.graph_degrees.proofs.present.Given as goal
 
 abbrev pub invariant-loop-x : goal.invariant-loop-x

@@ -1,10 +1,9 @@
 -- `graph_degrees::present_and_marked` meets its contract. The loop's invariant: the first x bytes are written.
-use borrow.Author.Rules.{rules}
-use mathlib.Core.Path.{◌≡◌, refl, ◌∙◌}
+use mathlib.Core.Path.{refl, ◌∙◌}
 use mathlib.Core.Bool.{◌&&◌}
-use Prim.Native.Nat.{ℕ, ◌-◌, ◌≤◌, ◌<◌}
+use Prim.Native.Nat.{◌-◌}
 use native.Mathlib.Omega.{arith}
-use lib.ListN.{length, get_or, length-set}
+use lib.ListN.{length-set}
 use Rattle.model.specs.Count.{bit}
 use Rattle.model.specs.Graph.{present, marked}
 use Rattle.model.proofs.Count.{bit_le}

@@ -1,15 +1,10 @@
 -- `graph_degrees::present_and_marked` meets its contract. The loop's invariant: the first x bytes are written.
-use borrow.Author.Rules.{rules}
-use mathlib.Core.Path.{◌≡◌, refl, ◌∙◌}
+use mathlib.Core.Path.{◌≡◌}
 use mathlib.Core.Bool.{◌&&◌}
 use Prim.Native.Nat.{ℕ, ◌-◌, ◌≤◌, ◌<◌}
-use native.Mathlib.Omega.{arith}
-use lib.ListN.{length, get_or, length-set}
+use lib.ListN.{length, get_or}
 use Rattle.model.specs.Count.{bit}
 use Rattle.model.specs.Graph.{present, marked}
-use Rattle.model.proofs.Count.{bit_le}
-use Rattle.model.proofs.Store.{stored}
-use Rattle.graph_degrees.proofs.Reading.{tested}
 use Rattle.graph_degrees.proofs.present_and_marked.Given as goal
 
 abbrev pub invariant-loop-x : goal.invariant-loop-x

@@ -1,5 +1,4 @@
 -- `graph_degrees::tabulate` meets its contract. The loop's invariant: k places are read, and the degree of the last pair's operator is at hand.
-use borrow.Author.Rules.{rules}
 use mathlib.Core.Path.{◌≡◌, refl, sym, ◌∙◌}
 use mathlib.Core.Bool.{Bool, ◌&&◌}
 use mathlib.Core.List.{List}

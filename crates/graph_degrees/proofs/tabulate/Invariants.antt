@@ -1,17 +1,9 @@
 -- `graph_degrees::tabulate` meets its contract. The loop's invariant: k places are read, and the degree of the last pair's operator is at hand.
-use borrow.Author.Rules.{rules}
-use mathlib.Core.Path.{◌≡◌, refl, sym, ◌∙◌}
-use mathlib.Core.Bool.{Bool, ◌&&◌}
-use Prim.Native.Nat.{ℕ, ◌+◌, ◌-◌, ◌≤◌, ◌<◌}
-use native.Mathlib.Omega.{arith}
-use lib.ListN.{length, get_or, take, drop, length-set}
-use lib.Seq.{get_or-set_same}
-use Rattle.model.specs.Count.{bit}
-use Rattle.model.proofs.Count.{bit_le}
-use Rattle.model.proofs.Store.{part_length, part_at}
-use Rattle.pairs.proofs.Order.{accepted_range}
+use mathlib.Core.Path.{◌≡◌}
+use mathlib.Core.Bool.{Bool}
+use Prim.Native.Nat.{ℕ, ◌-◌, ◌≤◌}
+use lib.ListN.{length, get_or}
 use Rattle.graph_degrees.specs.Degrees.{Bytes, ReadUpTo}
-use Rattle.graph_degrees.proofs.Reading.{tested, read_none, read_next, sums_fit}
 use Rattle.graph_degrees.proofs.tabulate.Given as goal
 
 abbrev pub invariant-loop-k : goal.invariant-loop-k

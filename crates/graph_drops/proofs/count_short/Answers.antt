@@ -1,7 +1,6 @@
 -- `graph_drops::count_short` meets its contract. The loop's invariant: of the first x nodes those that fall short are counted.
-use borrow.Author.Rules.{rules}
 use mathlib.Core.Path.{◌≡◌}
-use Prim.Native.Nat.{◌-◌, ◌≤◌}
+use Prim.Native.Nat.{◌-◌}
 use native.Mathlib.Omega.{arith}
 use Rattle.model.specs.Count.{count}
 use Rattle.model.proofs.Count.{bit_le, count_le, count_more}

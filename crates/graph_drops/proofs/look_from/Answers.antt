@@ -1,11 +1,9 @@
 -- `graph_drops::look_from` meets its contract.
-use borrow.Author.Rules.{rules}
 use mathlib.Core.Path.{sym, ◌∙◌}
 use native.Mathlib.Omega.{arith}
 use Rattle.graph_drops.proofs.Lacking.{looked_operator, looked_none, looked_some}
 use Rattle.graph_drops.proofs.look_from.Goals as goal
 
--- `graph_drops::look_from` meets its contract.
 pub returns-then-x-operators : goal.returns-then-x-operators
 returns-then-x-operators c = sym (looked_operator _ _ _ _ c.if-x-operators.true)
 

@@ -1,10 +1,8 @@
 -- `graph_drops::subtract_at` meets its contract. The loop's invariant: the first i places of the row are subtracted.
-use borrow.Author.Rules.{rules}
-use mathlib.Core.Path.{◌≡◌, refl}
-use Prim.Native.Nat.{◌+◌, ◌-◌, ◌≤◌}
+use mathlib.Core.Path.{refl}
+use Prim.Native.Nat.{◌+◌, ◌-◌}
 use native.Mathlib.Omega.{arith}
-use lib.ListN.{length}
-use Rattle.graph_drops.proofs.Drop.{Subtracting, subtracting_start, subtracting_more, subtracting_end}
+use Rattle.graph_drops.proofs.Drop.{subtracting_start, subtracting_more, subtracting_end}
 use Rattle.graph_drops.proofs.subtract_at.Goals as goal
 
 pub loop-i-init : goal.loop-i-init

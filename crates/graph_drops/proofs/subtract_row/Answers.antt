@@ -1,10 +1,8 @@
 -- `graph_drops::subtract_row` meets its contract.
-use borrow.Author.Rules.{rules}
 use native.Mathlib.Omega.{arith}
 use Rattle.graph_drops.proofs.Drop.{operator_fits, operator_left, ride_fits, ride_left}
 use Rattle.graph_drops.proofs.subtract_row.Goals as goal
 
--- `graph_drops::subtract_row` meets its contract.
 pub subtract_at-requires : goal.subtract_at-requires
 subtract_at-requires c = let p = c.requires.0 in operator_fits _ _ _ _ _ p.1 _ p.2 p.3 _ p.4 (omega arith)
 

@@ -1,10 +1,9 @@
 -- `graph_tables::subtract` meets its contract. The loop's invariant: the first j differences are stored.
-use borrow.Author.Rules.{rules}
-use mathlib.Core.Path.{◌≡◌, refl, ap}
-use Prim.Native.Nat.{ℕ, ◌≤◌, ◌-◌}
+use mathlib.Core.Path.{refl, ap}
+use Prim.Native.Nat.{ℕ, ◌-◌}
 use native.Mathlib.Omega.{arith}
 use lib.ListN.{length, get_or, length-set}
-use Rattle.arrays.proofs.Storing.{Storing, storing_start, storing_more}
+use Rattle.arrays.proofs.Storing.{storing_start, storing_more}
 use Rattle.graph_tables.proofs.subtract.Goals as goal
 
 pub loop-j-init : goal.loop-j-init

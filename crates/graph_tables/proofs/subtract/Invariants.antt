@@ -1,10 +1,8 @@
 -- `graph_tables::subtract` meets its contract. The loop's invariant: the first j differences are stored.
-use borrow.Author.Rules.{rules}
-use mathlib.Core.Path.{◌≡◌, refl, ap}
-use Prim.Native.Nat.{ℕ, ◌≤◌, ◌-◌}
-use native.Mathlib.Omega.{arith}
-use lib.ListN.{length, get_or, length-set}
-use Rattle.arrays.proofs.Storing.{Storing, storing_start, storing_more}
+use mathlib.Core.Path.{◌≡◌}
+use Prim.Native.Nat.{◌≤◌, ◌-◌}
+use lib.ListN.{length, get_or}
+use Rattle.arrays.proofs.Storing.{Storing}
 use Rattle.graph_tables.proofs.subtract.Given as goal
 
 abbrev pub invariant-loop-j : goal.invariant-loop-j

@@ -1,5 +1,4 @@
 -- `index_fill::any_row` meets its contract: above the largest degree of an operator every level is 0.
-use borrow.Author.Rules.{rules}
 use mathlib.Core.List.{List}
 use mathlib.Core.Path.{ap, ◌∙◌}
 use Prim.Native.Nat.{ℕ, ◌+◌}
@@ -10,7 +9,6 @@ use Rattle.graph_tables.specs.Table.{table_graph}
 use Rattle.index_fill.proofs.Index.{zero_row}
 use Rattle.index_fill.proofs.any_row.Goals as goal
 
--- `index_fill::any_row` meets its contract: above the largest degree of an operator every level is 0.
 pub returns-then-high-alpha : goal.returns-then-high-alpha
 returns-then-high-alpha c = let a = c.args in
     let v = c.fill in

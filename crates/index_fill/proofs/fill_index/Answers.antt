@@ -1,9 +1,7 @@
 -- `index_fill::fill_index` meets its contract: tables of zeros are filled, and the index from them.
-use borrow.Author.Rules.{rules}
 use mathlib.Core.Path.{refl}
 use Rattle.graph_tables.proofs.Held.{zero_tables}
 use Rattle.index_fill.proofs.fill_index.Goals as goal
 
--- `index_fill::fill_index` meets its contract: tables of zeros are filled, and the index from them.
 pub fill_over-requires : goal.fill_over-requires
 fill_over-requires c = let p = c.requires in (p.0, p.1, zero_tables, refl, p.2)

@@ -1,5 +1,4 @@
 -- `index_fill::fill_over` meets its contract: the tables hold the pairs that count, and every row is filled from them.
-use borrow.Author.Rules.{rules}
 use mathlib.Core.List.{List}
 use mathlib.Core.Path.{ap, ◌∙◌}
 use Prim.Native.Nat.{ℕ, ◌+◌}
@@ -10,7 +9,6 @@ use Rattle.graph_degrees.proofs.Reading.{tabulated}
 use Rattle.index_fill.proofs.Index.{held_index}
 use Rattle.index_fill.proofs.fill_over.Goals as goal
 
--- `index_fill::fill_over` meets its contract: the tables hold the pairs that count, and every row is filled from them.
 pub largest_of-high-requires : goal.largest_of-high-requires
 largest_of-high-requires c = omega (arith, (c.tabulate-degrees.ensures _ c.present-here.ensures).degrees.operators_long, c.requires.0.few_operators)
 

@@ -1,5 +1,4 @@
 -- `index_fill::fill_rows` meets its contract. The loop's invariant: the first a rows are stored, and differ counts their words that differ.
-use borrow.Author.Rules.{rules}
 use lib.ListN.{take}
 use mathlib.Core.Path.{ap₂}
 use Rattle.model.proofs.Count.{length_values}
@@ -10,7 +9,6 @@ use Rattle.index_fill.proofs.Index.{row_values}
 use borrow.Rule.Slice.PartMut.{same_len_mid}
 use Prim.Native.Nat.{ℕ, suc, ◌+◌, ◌*◌, ◌<◌, ◌≤◌, ◌-◌}
 use mathlib.Core.Path.{◌≡◌, refl, sym, ap, ◌∙◌, subst}
-use mathlib.Core.List.{◌++◌}
 use native.Mathlib.Omega.{arith}
 use lib.ListN.{length, drop}
 use Rattle.model.specs.Count.{rows}

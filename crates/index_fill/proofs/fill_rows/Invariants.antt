@@ -1,23 +1,12 @@
 -- `index_fill::fill_rows` meets its contract. The loop's invariant: the first a rows are stored, and differ counts their words that differ.
-use borrow.Author.Rules.{rules}
-use lib.ListN.{take}
-use mathlib.Core.Path.{ap₂}
-use Rattle.model.proofs.Count.{length_values}
-use Rattle.index_fill.proofs.Stored.{index_done, differ_done, index_small}
-use Rattle.model.proofs.Differ.{differing_none, differing_le}
-use Rattle.graph_tables.proofs.Place.{row_inside}
-use Rattle.index_fill.proofs.Index.{row_values}
-use borrow.Rule.Slice.PartMut.{same_len_mid}
-use Prim.Native.Nat.{ℕ, suc, ◌+◌, ◌*◌, ◌≤◌, ◌-◌}
-use mathlib.Core.Path.{◌≡◌, refl, sym, ap, ◌∙◌, subst}
+use Prim.Native.Nat.{suc, ◌+◌, ◌*◌, ◌≤◌, ◌-◌}
+use mathlib.Core.Path.{◌≡◌}
 use mathlib.Core.List.{◌++◌}
-use native.Mathlib.Omega.{arith}
 use lib.ListN.{length, drop}
 use Rattle.model.specs.Count.{rows}
 use Rattle.model.specs.Graph.{level}
 use Rattle.model.specs.Layout.{differing}
 use Rattle.graph_tables.specs.Table.{table_graph}
-use Rattle.index_fill.proofs.Stored.{stored_row, differing_row, no_rows}
 use Rattle.index_fill.proofs.fill_rows.Given as goal
 
 abbrev pub invariant-loop-a : goal.invariant-loop-a

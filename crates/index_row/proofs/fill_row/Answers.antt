@@ -1,5 +1,4 @@
 -- `index_row::fill_row` meets its contract: `raise`, from everybody.
-use borrow.Author.Rules.{rules}
 use Prim.Native.Nat.{ℕ, ◌≤◌}
 use mathlib.Core.Path.{refl}
 use native.Mathlib.Omega.{arith}
@@ -8,7 +7,6 @@ use mathlib.Core.List.{List}
 use Rattle.index_row.proofs.Rows.{row_fits, row_start, row_done}
 use Rattle.index_row.proofs.fill_row.Goals as goal
 
--- `index_row::fill_row` meets its contract: `raise`, from everybody.
 pub slice_bounds-operator_degrees-end : goal.slice_bounds-operator_degrees-end
 slice_bounds-operator_degrees-end c = let z : c.args.n ≤ length c.args.degrees.operators = omega (arith, c.requires.0.degrees.operators_long, c.requires.0.tables.by_ride.wide) in z
 

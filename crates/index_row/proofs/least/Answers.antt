@@ -1,10 +1,8 @@
 -- `index_row::least` meets its contract. The loop's invariant: low is the least degree among the first i nodes.
-use borrow.Author.Rules.{rules}
-use Prim.Native.Nat.{◌≤◌, ◌-◌}
+use Prim.Native.Nat.{◌-◌}
 use mathlib.Core.Path.{◌≡◌, refl}
 use native.Mathlib.Omega.{arith}
 use lib.ListN.{length}
-use Rattle.index_row.specs.Row.{Least}
 use Rattle.index_row.proofs.Raising.{least_none, least_more}
 use Rattle.index_row.proofs.least.Goals as goal
 

@@ -1,6 +1,5 @@
 -- `index_row::raise` meets its contract. The loop's invariant: the kept lie between cover (α, β) and cover (α, β - 1), and whoever is removed has its level; β grows.
-use borrow.Author.Rules.{rules}
-use Prim.Native.Nat.{ℕ, ◌≤◌, ◌-◌}
+use Prim.Native.Nat.{ℕ, ◌-◌}
 use mathlib.Core.Path.{sym, subst, subst₂}
 use native.Mathlib.Omega.{arith}
 use lib.ListN.{length}

@@ -1,12 +1,8 @@
 -- `index_row::raise` meets its contract. The loop's invariant: the kept lie between cover (α, β) and cover (α, β - 1), and whoever is removed has its level; β grows.
-use borrow.Author.Rules.{rules}
-use Prim.Native.Nat.{ℕ, ◌≤◌, ◌-◌}
-use mathlib.Core.Path.{sym, subst, subst₂}
-use native.Mathlib.Omega.{arith}
+use Prim.Native.Nat.{◌≤◌, ◌-◌}
 use lib.ListN.{length}
 use Rattle.graph_tables.specs.Table.{table_graph}
-use Rattle.index_row.specs.Row.{work, Fits, Raising, Settled, Least}
-use Rattle.index_row.proofs.Raising.{fits_again, raising_start, raising_next, raising_end, least_high}
+use Rattle.index_row.specs.Row.{work, Fits, Raising}
 use Rattle.index_row.proofs.raise.Given as goal
 
 abbrev pub invariant-loop-alpha : goal.invariant-loop-alpha

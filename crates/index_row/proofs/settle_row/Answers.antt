@@ -1,5 +1,4 @@
 -- `index_row::settle_row` meets its contract. The loop's invariant: no member of the cover is removed, and whoever is removed has its level; each turn but the last removes an operator.
-use borrow.Author.Rules.{rules}
 use mathlib.Core.Path.{subst₂}
 use Rattle.index_row.specs.Row.{Rounded}
 use Rattle.index_row.proofs.Raising.{fits_again}
@@ -7,8 +6,6 @@ use Prim.Native.Nat.{ℕ}
 use mathlib.Core.Path.{sym}
 use native.Mathlib.Omega.{arith}
 use lib.ListN.{length}
-use Rattle.model.specs.Count.{count}
-use Rattle.model.specs.Graph.{marked}
 use Rattle.graph_tables.specs.Table.{table_graph}
 use Rattle.index_row.specs.Row.{work, Fits, Raising}
 use Rattle.index_row.proofs.settle_row.Goals as goal

@@ -1,12 +1,8 @@
 -- `index_sweeps::sweep_side` meets its contract. The loop's invariant: the first i nodes are swept.
-use borrow.Author.Rules.{rules}
 use Prim.Native.Nat.{◌≤◌, ◌-◌}
-use mathlib.Core.Path.{◌≡◌, refl}
-use native.Mathlib.Omega.{arith}
+use mathlib.Core.Path.{◌≡◌}
 use lib.ListN.{length}
-use Rattle.model.proofs.Count.{bit_le, count_le}
-use Rattle.index_sweeps.specs.Sweep.{falls, SideSwept}
-use Rattle.index_sweeps.proofs.Side.{side_again, swept_none, swept_more}
+use Rattle.index_sweeps.specs.Sweep.{SideSwept}
 use Rattle.index_sweeps.proofs.sweep_side.Given as goal
 
 abbrev pub invariant-loop-i : goal.invariant-loop-i

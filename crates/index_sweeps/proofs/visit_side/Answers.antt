@@ -1,5 +1,4 @@
 -- `index_sweeps::visit_side` meets its contract: the node stays, or its row is subtracted from the others' degrees.
-use borrow.Author.Rules.{rules}
 use Prim.Native.Nat.{ℕ, ◌*◌, ◌≤◌}
 use mathlib.Core.Path.{sym, subst}
 use native.Mathlib.Omega.{arith}
@@ -9,7 +8,6 @@ use Rattle.graph_tables.proofs.Place.{row_inside}
 use Rattle.index_sweeps.proofs.Side.{falls_not, falls_true, falls_kept, visited_kept, visited_removed, row_counted}
 use Rattle.index_sweeps.proofs.visit_side.Goals as goal
 
--- `index_sweeps::visit_side` meets its contract: the node stays, or its row is subtracted from the others' degrees.
 pub returns-then-kept-i-eq0 : goal.returns-then-kept-i-eq0
 returns-then-kept-i-eq0 c =
     let a = c.args in

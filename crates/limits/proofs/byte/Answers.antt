@@ -1,10 +1,8 @@
 -- `limits::byte` meets its contract.
-use borrow.Author.Rules.{rules}
 use borrow.Author.Tests.{eq-eqb, ne_eqb}
 use native.Mathlib.Omega.{arith}
 use Rattle.limits.proofs.byte.Goals as goal
 
--- `limits::byte` meets its contract.
 pub returns-then-mark-ne1 : goal.returns-then-mark-ne1
 returns-then-mark-ne1 c = rw (ne_eqb _ _ c.if-mark-ne1.true)
 

@@ -1,9 +1,8 @@
 -- `limits::bytes` meets its contract. The loop's invariant: the first x bytes are written.
-use borrow.Author.Rules.{rules}
-use mathlib.Core.Path.{◌≡◌, refl}
-use Prim.Native.Nat.{ℕ, ◌-◌, ◌≤◌, ◌<◌}
+use mathlib.Core.Path.{refl}
+use Prim.Native.Nat.{◌-◌}
 use native.Mathlib.Omega.{arith}
-use lib.ListN.{length, get_or, length-set}
+use lib.ListN.{length-set}
 use Rattle.model.proofs.Store.{stored}
 use Rattle.limits.specs.Limits.{limit_of, byte_limit}
 use Rattle.limits.proofs.bytes.Goals as goal

@@ -1,10 +1,7 @@
 -- `limits::bytes` meets its contract. The loop's invariant: the first x bytes are written.
-use borrow.Author.Rules.{rules}
-use mathlib.Core.Path.{◌≡◌, refl}
+use mathlib.Core.Path.{◌≡◌}
 use Prim.Native.Nat.{ℕ, ◌-◌, ◌≤◌, ◌<◌}
-use native.Mathlib.Omega.{arith}
-use lib.ListN.{length, get_or, length-set}
-use Rattle.model.proofs.Store.{stored}
+use lib.ListN.{length, get_or}
 use Rattle.limits.specs.Limits.{limit_of, byte_limit}
 use Rattle.limits.proofs.bytes.Given as goal
 

@@ -1,6 +1,5 @@
 -- `limits::fill` meets its contract: the operators' side, then the rides'.
 -- the limits of one side raised for who is off or out
-use borrow.Author.Rules.{rules}
 use mathlib.Core.Bool.{Bool, true, false}
 use mathlib.Core.Path.{◌≡◌, sym, ◌∙◌}
 use Prim.Native.Nat.{ℕ, suc}
@@ -10,8 +9,6 @@ use Rattle.model.specs.Graph.{raised}
 use Rattle.model.proofs.Cover.{own_operator, own_ride}
 use Rattle.limits.proofs.fill.Goals as goal
 
--- `limits::fill` meets its contract: the operators' side, then the rides'.
--- the limits of one side raised for who is off or out
 side : (n : ℕ) (here : ℕ → Bool) (limit : ℕ → ℕ) (x own high : ℕ) → own ≡ limit x → high ≡ suc n → elim (here x) [ true ↦ own | false ↦ high ] ≡ raised n here limit x
 unfolding raised
 side n here limit x own high e f = λ i. elim (here x) [ true ↦ e i | false ↦ f i ]

@@ -1,13 +1,11 @@
 -- `limits::fill_operators` meets its contract. The loop's invariant: the limits of the operators before u are stored.
-use borrow.Author.Rules.{rules}
 use mathlib.Core.Bool.{true, false}
-use mathlib.Core.Path.{◌≡◌, refl}
-use Prim.Native.Nat.{ℕ, ◌≤◌, ◌<◌, ◌-◌}
+use mathlib.Core.Path.{refl}
+use Prim.Native.Nat.{◌-◌}
 use native.Mathlib.Omega.{arith}
-use lib.ListN.{length, length-set}
+use lib.ListN.{length-set}
 use Rattle.model.specs.Graph.{present}
 use Rattle.model.proofs.Store.{stored}
-use Rattle.limits.specs.Limits.{limit_of}
 use Rattle.limits.proofs.fill_operators.Goals as goal
 
 pub loop-u-init : goal.loop-u-init

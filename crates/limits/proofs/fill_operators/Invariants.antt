@@ -1,12 +1,9 @@
 -- `limits::fill_operators` meets its contract. The loop's invariant: the limits of the operators before u are stored.
-use borrow.Author.Rules.{rules}
 use mathlib.Core.Bool.{true, false}
-use mathlib.Core.Path.{◌≡◌, refl}
+use mathlib.Core.Path.{◌≡◌}
 use Prim.Native.Nat.{ℕ, ◌≤◌, ◌<◌, ◌-◌}
-use native.Mathlib.Omega.{arith}
-use lib.ListN.{length, length-set}
+use lib.ListN.{length}
 use Rattle.model.specs.Graph.{present}
-use Rattle.model.proofs.Store.{stored}
 use Rattle.limits.specs.Limits.{limit_of}
 use Rattle.limits.proofs.fill_operators.Given as goal
 

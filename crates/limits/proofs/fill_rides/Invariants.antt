@@ -1,15 +1,10 @@
 -- `limits::fill_rides` meets its contract. The loop's invariant: the limits of the rides before v are stored, and those of the operators are as they
 -- came.
-use borrow.Author.Rules.{rules}
-use mathlib.Core.Bool.{Bool, true, false}
-use mathlib.Core.Path.{◌≡◌, refl, ap, ◌∙◌, subst}
-use mathlib.Core.List.{List}
+use mathlib.Core.Bool.{true, false}
+use mathlib.Core.Path.{◌≡◌}
 use Prim.Native.Nat.{ℕ, ◌+◌, ◌≤◌, ◌<◌, ◌-◌}
-use native.Mathlib.Omega.{arith}
-use lib.ListN.{length, length-set}
-use lib.Seq.{get_or-set_other}
+use lib.ListN.{length}
 use Rattle.model.specs.Graph.{present, ride_limit}
-use Rattle.model.proofs.Store.{stored_from}
 use Rattle.limits.specs.Limits.{limit_of}
 use Rattle.limits.proofs.fill_rides.Given as goal
 

@@ -2,7 +2,6 @@
 use borrow.Author.Tests.{eq-eqb, ne_eqb}
 use Rattle.limits.proofs.node_limit.Goals as goal
 
--- `limits::node_limit` meets its contract.
 pub returns-then-word-eq1 : goal.returns-then-word-eq1
 returns-then-word-eq1 c = rw (eq-eqb _ _ c.if-word-eq1.true)
 

@@ -2,7 +2,6 @@
 use borrow.Author.Tests.{eq-eqb, ne_eqb}
 use Rattle.limits.proofs.own_limit.Goals as goal
 
--- `limits::own_limit` meets its contract.
 pub returns-then-minimum-eq0 : goal.returns-then-minimum-eq0
 returns-then-minimum-eq0 c = rw (eq-eqb _ _ c.if-minimum-eq0.true)
 

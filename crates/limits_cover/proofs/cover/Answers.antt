@@ -5,7 +5,6 @@ use Rattle.limits.specs.Limits.{limit_of}
 use Rattle.limits_cover.proofs.Whole.{held_ones, covered}
 use Rattle.limits_cover.proofs.cover.Goals as goal
 
--- `limits_cover::cover` meets its contract.
 pub settle-requires : goal.settle-requires
 settle-requires c = let g = c.requires.0.0 in
     let o = c.requires.0.1 in

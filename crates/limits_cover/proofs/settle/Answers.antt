@@ -1,14 +1,6 @@
 -- `limits_cover::settle` meets its contract. The loop's invariant: only nodes that fell short were dropped; each turn but the last drops one.
-use borrow.Author.Rules.{rules}
-use mathlib.Core.Path.{◌≡◌, refl}
-use Prim.Native.Nat.{ℕ, ◌+◌}
+use mathlib.Core.Path.{refl}
 use native.Mathlib.Omega.{arith}
-use lib.ListN.{length}
-use Rattle.model.specs.Count.{count}
-use Rattle.model.specs.Graph.{Graph, marked}
-use Rattle.graph_tables.specs.Table.{Tables}
-use Rattle.graph_drops.specs.Drop.{Held}
-use Rattle.limits_cover.specs.Cover.{Shrunk}
 use Rattle.limits_cover.proofs.Sweeps.{shrunk_none, shrunk_more, swept_less, swept_settled}
 use Rattle.limits_cover.proofs.settle.Goals as goal
 

@@ -1,14 +1,9 @@
 -- `limits_cover::sweep` meets its contract. The loop's invariant: the nodes below x are swept.
-use borrow.Author.Rules.{rules}
 use mathlib.Core.Path.{◌≡◌, refl}
-use Prim.Native.Nat.{ℕ, ◌+◌, ◌-◌, ◌≤◌}
+use Prim.Native.Nat.{◌+◌, ◌-◌}
 use native.Mathlib.Omega.{arith}
-use lib.ListN.{length}
-use Rattle.model.specs.Graph.{Graph, nodes, marked, short}
+use Rattle.model.specs.Graph.{nodes, marked, short}
 use Rattle.model.proofs.Count.{bit_le, count_le}
-use Rattle.graph_tables.specs.Table.{Tables}
-use Rattle.graph_drops.specs.Drop.{Held}
-use Rattle.limits_cover.specs.Cover.{Swept}
 use Rattle.limits_cover.proofs.Sweeps.{swept_none, swept_more}
 use Rattle.limits_cover.proofs.sweep.Goals as goal
 

@@ -1,15 +1,11 @@
 -- `limits_cover::sweep` meets its contract. The loop's invariant: the nodes below x are swept.
-use borrow.Author.Rules.{rules}
-use mathlib.Core.Path.{◌≡◌, refl}
+use mathlib.Core.Path.{◌≡◌}
 use Prim.Native.Nat.{ℕ, ◌+◌, ◌-◌, ◌≤◌}
-use native.Mathlib.Omega.{arith}
 use lib.ListN.{length}
-use Rattle.model.specs.Graph.{Graph, nodes, marked, short}
-use Rattle.model.proofs.Count.{bit_le, count_le}
+use Rattle.model.specs.Graph.{Graph}
 use Rattle.graph_tables.specs.Table.{Tables}
 use Rattle.graph_drops.specs.Drop.{Held}
 use Rattle.limits_cover.specs.Cover.{Swept}
-use Rattle.limits_cover.proofs.Sweeps.{swept_none, swept_more}
 use Rattle.limits_cover.proofs.sweep.Given as goal
 
 abbrev pub invariant-loop-x : goal.invariant-loop-x

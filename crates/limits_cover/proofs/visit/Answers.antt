@@ -1,11 +1,9 @@
 -- `limits_cover::visit` meets its contract.
-use borrow.Author.Rules.{rules}
 use native.Mathlib.Omega.{arith}
 use Rattle.model.proofs.Peel.{short_marked}
 use Rattle.limits_cover.proofs.Sweeps.{visited_kept, falls_short, visited_dropped}
 use Rattle.limits_cover.proofs.visit.Goals as goal
 
--- `limits_cover::visit` meets its contract.
 pub returns-then-limits-x : goal.returns-then-limits-x
 returns-then-limits-x c = λ g limit t held. (visited_kept g limit _ _ _ _ _ _ _ t held _ c.requires.1 (omega (arith, c.if-limits-x.true)), held)
 

@@ -1,9 +1,7 @@
 -- `limits_cover_pairs::count` meets its contract.
-use borrow.Author.Rules.{rules}
 use Rattle.limits_cover_pairs.proofs.Counted.{operators_counted, rides_counted, counted}
 use Rattle.limits_cover_pairs.proofs.count.Goals as goal
 
--- `limits_cover_pairs::count` meets its contract.
 pub count_marks-requires : goal.count_marks-requires
 count_marks-requires c =
     let q = operators_counted c.args.head c.args.marks.now c.requires.2 c.requires.0 c.requires.1 c.requires.3 in

@@ -1,10 +1,8 @@
 -- `limits_cover_pairs::cover` meets its contract: the pairs whose nodes are both here are tabulated, and `limits_cover::cover` does the rest.
-use borrow.Author.Rules.{rules}
 use Rattle.graph_tables.proofs.Held.{zero_tables}
 use Rattle.limits_cover_pairs.proofs.Pairs.{read_over}
 use Rattle.limits_cover_pairs.proofs.cover.Goals as goal
 
--- `limits_cover_pairs::cover` meets its contract: the pairs whose nodes are both here are tabulated, and `limits_cover::cover` does the rest.
 pub tabulate-degrees-requires : goal.tabulate-degrees-requires
 tabulate-degrees-requires c = let p = c.requires in (p.0, p.1, zero_tables)
 

@@ -4,7 +4,6 @@ use Rattle.model.specs.Graph.{own_limits}
 use Rattle.limits_cover_pairs.proofs.Shown.{left_counted, left_shown}
 use Rattle.limits_cover_pairs.proofs.cover_present.Goals as goal
 
--- `limits_cover_pairs::cover_present` meets its contract: the pairs whose nodes are both present, under the limits of a peel.
 pub count-requires : goal.count-requires
 count-requires c = let a = c.args in
     let left = left_counted a.head a.operators.now a.rides.now a.presence.now (own_limits a.head.operators a.minimums.now a.alpha a.beta) _ c.fill.ensures a.marks.now _ (c.cover.ensures _ c.present-here.ensures) in

@@ -5,7 +5,6 @@ use Rattle.message_entry.proofs.Entering.{node_within, node_entered}
 use Rattle.message_entry.proofs.Next.{enters_any}
 use Rattle.message_entry.proofs.enter.Goals as goal
 
--- `message_entry::enter` meets its contract: the kind says what the message is entered for.
 pub enter_pair-requires : goal.enter_pair-requires
 enter_pair-requires c = ((_, _, _, _, c.requires.1), c.if-message-le2.true)
 

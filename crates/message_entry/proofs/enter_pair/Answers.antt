@@ -5,7 +5,6 @@ use Rattle.model.specs.Contents.{entry}
 use Rattle.message_entry.proofs.Entering.{place_inside, pair_within, pair_entered}
 use Rattle.message_entry.proofs.enter_pair.Goals as goal
 
--- `message_entry::enter_pair` meets its contract: the stamp and the revision stored and the pair arrays changed are what the board then says.
 pub store-requires : goal.store-requires
 store-requires c = let r = c.requires.0.4 in
     let a = c.args in

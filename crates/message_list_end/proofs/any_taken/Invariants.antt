@@ -1,12 +1,6 @@
 -- `message_list_end::any_taken` meets its contract. The loop's invariant: none of the first i numbers is 0.
-use borrow.Author.Rules.{rules}
-use mathlib.Core.Path.{refl, sym}
 use Prim.Native.Nat.{◌≤◌, ◌-◌}
-use native.Mathlib.Omega.{arith}
-use lib.Dec.{eqb→eq}
-use borrow.Author.Count.{below_more}
-use borrow.Author.Tests.{eq-eqb}
-use Rattle.model.proofs.Search.{passes, NoneBefore, some_true, some_false}
+use Rattle.model.proofs.Search.{NoneBefore}
 use Rattle.message_list_end.specs.Ending.{taken_at}
 use Rattle.message_list_end.proofs.any_taken.Given as goal
 

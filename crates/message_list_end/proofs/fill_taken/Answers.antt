@@ -1,10 +1,8 @@
 -- `message_list_end::fill_taken` meets its contract: the index is filled, or stays.
-use borrow.Author.Rules.{rules}
 use mathlib.Core.Path.{sym, ◌∙◌}
 use Rattle.message_list_end.proofs.Ending.{filled_yes, filled_no}
 use Rattle.message_list_end.proofs.fill_taken.Goals as goal
 
--- `message_list_end::fill_taken` meets its contract: the index is filled, or stays.
 pub returns-then-any_taken : goal.returns-then-any_taken
 returns-then-any_taken c = c.fill_index.ensures.0 ∙ sym (filled_yes _ _ _ _ (sym c.any_taken.ensures ∙ c.if-any_taken.true))
 

@@ -2,7 +2,6 @@
 use Rattle.message_order.proofs.Order.{exceeds_stamp, exceeds_revision}
 use Rattle.message_order.proofs.exceeds.Goals as goal
 
--- `message_order::exceeds` meets its contract: at equal stamps the revisions decide.
 pub returns-then-stamp-other : goal.returns-then-stamp-other
 returns-then-stamp-other c = let a = c.args in exceeds_revision a.stamp a.revision a.other a.other_revision c.if-stamp-other.true
 

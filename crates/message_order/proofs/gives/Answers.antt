@@ -2,7 +2,6 @@
 use Rattle.message_order.proofs.Order.{gives_one, gives_three, gives_five}
 use Rattle.message_order.proofs.gives.Goals as goal
 
--- `message_order::gives` meets its contract: the kinds 1, 3 and 5 give.
 pub returns-then-kind-eq1 : goal.returns-then-kind-eq1
 returns-then-kind-eq1 c = gives_one _ c.if-kind-eq1.true
 

@@ -1,5 +1,4 @@
 -- `message_order::is_later` meets its contract: stamps and revisions are compared, and where neither exceeds the other who gives.
-use borrow.Author.Rules.{rules}
 use mathlib.Core.Path.{sym, ap, ◌∙◌}
 use mathlib.Core.Bool.{Bool, not, ◌&&◌}
 use Rattle.model.specs.Count.{bit}
@@ -8,7 +7,6 @@ use Rattle.model.proofs.Count.{bit_test}
 use Rattle.message_order.proofs.Order.{exceeds_later, exceeded_earlier, tied}
 use Rattle.message_order.proofs.is_later.Goals as goal
 
--- `message_order::is_later` meets its contract: stamps and revisions are compared, and where neither exceeds the other who gives.
 pub returns-then-exceeds : goal.returns-then-exceeds
 returns-then-exceeds c = let a = c.args in
     sym (exceeds_later a.message (record { stamp = a.stamp; revision = a.revision; word = bit a.given }) (sym c.exceeds.ensures ∙ c.if-exceeds.true))

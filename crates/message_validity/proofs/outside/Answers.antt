@@ -3,7 +3,6 @@ use native.Mathlib.Omega.{arith}
 use Rattle.message_validity.proofs.Validity.{outside_operator, outside_ride, outside_operators, outside_rides}
 use Rattle.message_validity.proofs.outside.Goals as goal
 
--- `message_validity::outside` meets its contract: of the fields that the kind uses.
 pub returns-then-head-message : goal.returns-then-head-message
 returns-then-head-message c = let a = c.args in outside_operator a.head a.message (omega arith) (omega arith)
 

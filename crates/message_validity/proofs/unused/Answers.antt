@@ -3,7 +3,6 @@ use native.Mathlib.Omega.{arith}
 use Rattle.message_validity.proofs.Validity.{uses_both, unused_ride, unused_operator}
 use Rattle.message_validity.proofs.unused.Goals as goal
 
--- `message_validity::unused` meets its contract.
 pub returns-then-message-le2 : goal.returns-then-message-le2
 returns-then-message-le2 c = uses_both c.args.message (omega arith)
 

@@ -1,11 +1,9 @@
 -- `message_validity::valid_number` meets its contract: 7 to 9, 14 and 15 in this order.
-use borrow.Author.Rules.{rules}
 use mathlib.Core.Path.{sym, ◌∙◌}
 use native.Mathlib.Omega.{arith}
 use Rattle.message_validity.proofs.Validity.{kind_zero, kind_over, slot_over, stamp_zero, revision_over, unused_set, no_number}
 use Rattle.message_validity.proofs.valid_number.Goals as goal
 
--- `message_validity::valid_number` meets its contract: 7 to 9, 14 and 15 in this order.
 pub returns-then-message-eq0 : goal.returns-then-message-eq0
 returns-then-message-eq0 c = let a = c.args in kind_zero a.head a.message (omega arith)
 

@@ -1,5 +1,4 @@
 -- `pairs::ascending` meets its contract.
-use borrow.Author.Rules.{rules}
 use mathlib.Core.Path.{◌∙◌}
 use native.Mathlib.Omega.{arith}
 use borrow.Author.Tests.{le-leb, lt-leb}
@@ -9,7 +8,6 @@ use Rattle.model.specs.Refusal.{refused_5}
 use Rattle.pairs.proofs.Order.{first_place, first_misplaced, none_misplaced}
 use Rattle.pairs.proofs.ascending.Goals as goal
 
--- `pairs::ascending` meets its contract.
 pub returns-then-head-eq0 : goal.returns-then-head-eq0
 unfolding refused_5 some count
 returns-then-head-eq0 c = rw c.if-head-eq0.true

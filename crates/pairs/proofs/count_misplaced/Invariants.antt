@@ -1,12 +1,8 @@
 -- `pairs::count_misplaced` meets its contract. The loop's invariant: sum counts those of the first i pairs that are misplaced.
-use borrow.Author.Rules.{rules}
-use mathlib.Core.Path.{◌≡◌, refl, ap}
-use Prim.Native.Nat.{◌+◌, ◌-◌, ◌≤◌}
-use native.Mathlib.Omega.{arith}
-use Rattle.model.specs.Count.{bit, count}
+use mathlib.Core.Path.{◌≡◌}
+use Prim.Native.Nat.{◌-◌, ◌≤◌}
+use Rattle.model.specs.Count.{count}
 use Rattle.model.specs.Refusal.{misplaced}
-use Rattle.model.proofs.Count.{count_le}
-use Rattle.pairs.proofs.Order.{misplaced_more}
 use Rattle.pairs.proofs.count_misplaced.Given as goal
 
 abbrev pub invariant-loop-i : goal.invariant-loop-i

@@ -1,10 +1,8 @@
 -- `pairs::misplaced` meets its contract: out of range, or not after the pair before it.
-use mathlib.Core.Logic.{⊎_elim}
 use native.Mathlib.Omega.{arith}
-use borrow.Author.Tests.{lt-ltb, le-ltb, le-leb, lt-leb, eq-eqb, ne_eqb}
+use borrow.Author.Tests.{lt-ltb, le-leb, lt-leb}
 use Rattle.pairs.proofs.misplaced.Goals as goal
 
--- `pairs::misplaced` meets its contract: out of range, or not after the pair before it.
 pub returns-then-head-u : goal.returns-then-head-u
 returns-then-head-u c = let a = c.args in rw (le-leb a.head.operators a.u (omega arith))
 

@@ -1,9 +1,7 @@
 -- `pairs::place_of` meets its contract. The loop's invariant: the pairs below low are before the one looked for, those from high on are not.
-use borrow.Author.Rules.{rules}
-use Prim.Native.Nat.{ℕ, ◌+◌, ◌*◌, ◌≤◌, ◌<◌, ◌-◌, ◌/◌}
+use Prim.Native.Nat.{ℕ, ◌+◌, ◌-◌, ◌/◌}
 use native.Mathlib.Omega.{arith}
-use lib.ListN.{get_or}
-use Rattle.pairs.proofs.Place.{number, number_small, number_fits, half_before, half_behind}
+use Rattle.pairs.proofs.Place.{number_small, number_fits, half_before, half_behind}
 use Rattle.pairs.proofs.place_of.Goals as goal
 
 pub overflow_mul-number : goal.overflow_mul-number

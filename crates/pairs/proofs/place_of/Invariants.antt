@@ -1,9 +1,6 @@
 -- `pairs::place_of` meets its contract. The loop's invariant: the pairs below low are before the one looked for, those from high on are not.
-use borrow.Author.Rules.{rules}
-use Prim.Native.Nat.{ℕ, ◌+◌, ◌*◌, ◌≤◌, ◌<◌, ◌-◌, ◌/◌}
-use native.Mathlib.Omega.{arith}
+use Prim.Native.Nat.{ℕ, ◌+◌, ◌*◌, ◌≤◌, ◌<◌, ◌-◌}
 use lib.ListN.{get_or}
-use Rattle.pairs.proofs.Place.{number, number_small, number_fits, half_before, half_behind}
 use Rattle.pairs.proofs.place_of.Given as goal
 
 abbrev pub invariant-loop-low : goal.invariant-loop-low

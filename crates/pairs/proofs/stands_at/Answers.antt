@@ -1,10 +1,8 @@
 -- `pairs::stands_at` meets its contract.
-use borrow.Author.Rules.{rules}
 use native.Mathlib.Omega.{arith}
 use Rattle.pairs.proofs.Place.{stands_past, stands_other, stands_ride}
 use Rattle.pairs.proofs.stands_at.Goals as goal
 
--- `pairs::stands_at` meets its contract.
 pub returns-then-pairs-place : goal.returns-then-pairs-place
 returns-then-pairs-place c = let a = c.args in stands_past a.pairs a.place a.operator a.ride a.operators.now a.rides.now (omega arith)
 

@@ -1,11 +1,9 @@
 -- `pairs_change::change` meets its contract: the shifted arrays hold the pairs after the message, and their tails are zero.
-use borrow.Author.Rules.{rules}
 use native.Mathlib.Omega.{arith}
 use Rattle.pairs_change.proofs.After.{stands_place, count_next, count_fits, count_place, changed_all}
 use Rattle.pairs.proofs.Place.{product_small}
 use Rattle.pairs_change.proofs.change.Goals as goal
 
--- `pairs_change::change` meets its contract: the shifted arrays hold the pairs after the message, and their tails are zero.
 pub count_of-count-requires : goal.count_of-count-requires
 count_of-count-requires c = let a = c.args in
     let place = c.place_of-place.ensures in

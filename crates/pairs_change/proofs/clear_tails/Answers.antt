@@ -1,9 +1,7 @@
 -- `pairs_change::clear_tails` meets its contract.
-use borrow.Author.Rules.{rules}
 use Rattle.pairs_change.proofs.Tails.{tails_fit, tails_zeroed}
 use Rattle.pairs_change.proofs.clear_tails.Goals as goal
 
--- `pairs_change::clear_tails` meets its contract.
 pub fill-requires : goal.fill-requires
 fill-requires c = (tails_fit c.args.head c.args.operators.now c.args.rides.now c.requires.0, c.requires.1)
 

@@ -1,11 +1,9 @@
 -- `pairs_change::count_of` meets its contract.
-use borrow.Author.Rules.{rules}
 use mathlib.Core.Path.{ap₂}
 use native.Mathlib.Omega.{arith}
 use Rattle.pairs_change.specs.Change.{count_after}
 use Rattle.pairs_change.proofs.count_of.Goals as goal
 
--- `pairs_change::count_of` meets its contract.
 pub returns-then-is_listed : goal.returns-then-is_listed
 returns-then-is_listed c = omega (arith, ap₂ (count_after c.args.pairs) c.if-is_listed.true c.if-grant.true)
 

@@ -1,11 +1,9 @@
 -- `pairs_shift::insert` meets its contract. The loop's invariant: the words below i are those after the insertion, and the carried word is the next.
-use borrow.Author.Rules.{rules}
-use mathlib.Core.Path.{◌≡◌, refl, sym, ap, ◌∙◌}
-use Prim.Native.Nat.{ℕ, ◌+◌, ◌≤◌, ◌-◌}
-use native.Mathlib.Omega.{arith}
-use lib.ListN.{length, get_or, length-set}
-use Rattle.arrays.proofs.Storing.{Storing, storing_start, storing_more}
-use Rattle.pairs_shift.proofs.Words.{inserted_at, inserted_below, inserted_here, inserted_above}
+use mathlib.Core.Path.{◌≡◌}
+use Prim.Native.Nat.{◌+◌, ◌≤◌, ◌-◌}
+use lib.ListN.{length}
+use Rattle.arrays.proofs.Storing.{Storing}
+use Rattle.pairs_shift.proofs.Words.{inserted_at}
 use Rattle.pairs_shift.proofs.insert.Given as goal
 
 abbrev pub invariant-loop-i : goal.invariant-loop-i

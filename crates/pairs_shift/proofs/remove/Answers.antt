@@ -1,10 +1,9 @@
 -- `pairs_shift::remove` meets its contract. The loop's invariant: the words below i are those after the removal, the others as they came.
-use borrow.Author.Rules.{rules}
-use Prim.Native.Nat.{ℕ, ◌+◌, ◌≤◌, ◌-◌}
+use Prim.Native.Nat.{ℕ, ◌+◌, ◌-◌}
 use mathlib.Core.Path.{◌≡◌, refl, sym, ◌∙◌}
 use native.Mathlib.Omega.{arith}
-use lib.ListN.{length, get_or, length-set}
-use Rattle.arrays.proofs.Storing.{Storing, storing_start, storing_more}
+use lib.ListN.{get_or, length-set}
+use Rattle.arrays.proofs.Storing.{storing_start, storing_more}
 use Rattle.pairs_shift.proofs.Words.{removed_at, removed_below, removed_above}
 use Rattle.pairs_shift.proofs.remove.Goals as goal
 

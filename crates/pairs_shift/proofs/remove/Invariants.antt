@@ -1,11 +1,9 @@
 -- `pairs_shift::remove` meets its contract. The loop's invariant: the words below i are those after the removal, the others as they came.
-use borrow.Author.Rules.{rules}
-use Prim.Native.Nat.{ℕ, ◌+◌, ◌≤◌, ◌-◌}
-use mathlib.Core.Path.{◌≡◌, refl, sym, ◌∙◌}
-use native.Mathlib.Omega.{arith}
-use lib.ListN.{length, get_or, length-set}
-use Rattle.arrays.proofs.Storing.{Storing, storing_start, storing_more}
-use Rattle.pairs_shift.proofs.Words.{removed_at, removed_below, removed_above}
+use Prim.Native.Nat.{◌+◌, ◌≤◌, ◌-◌}
+use mathlib.Core.Path.{◌≡◌}
+use lib.ListN.{length}
+use Rattle.arrays.proofs.Storing.{Storing}
+use Rattle.pairs_shift.proofs.Words.{removed_at}
 use Rattle.pairs_shift.proofs.remove.Given as goal
 
 abbrev pub invariant-loop-i : goal.invariant-loop-i

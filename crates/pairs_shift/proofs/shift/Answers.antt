@@ -1,10 +1,8 @@
 -- `pairs_shift::shift` meets its contract.
-use borrow.Author.Rules.{rules}
 use native.Mathlib.Omega.{arith}
 use mathlib.Core.Path.{refl}
 use Rattle.pairs_shift.proofs.shift.Goals as goal
 
--- `pairs_shift::shift` meets its contract.
 pub returns-then-pairs-count : goal.returns-then-pairs-count
 returns-then-pairs-count c = record { more = λ h. c.insert.ensures; less = λ h. absurd (let z : ⊥ = omega arith in z); same = λ h. absurd (let z : ⊥ = omega arith in z) }
 

@@ -1,9 +1,6 @@
 -- `part_copy::copy_board` meets its contract: each part is copied to its length.
-use borrow.Author.Rules.{rules}
-use Prim.Native.Nat.{◌≤◌}
 use native.Mathlib.Omega.{arith}
-use lib.ListN.{length}
-use Rattle.model.specs.Layout.{Part, Operators, Rides, Stamps, Revisions, Index, PresenceStamps, PresenceRevisions, Presence, places, parts, Board, lent}
+use Rattle.model.specs.Layout.{Operators, Rides, Stamps, Revisions, Index, PresenceStamps, PresenceRevisions, Presence, parts, lent}
 use Rattle.model.proofs.Parts.{not_short}
 use Rattle.pairs.proofs.Place.{product_fits}
 use Rattle.part_copy.proofs.Copy.{all_copied}

@@ -1,5 +1,4 @@
 -- `part_presence::not_later` meets its contract.
-use borrow.Author.Rules.{rules}
 use mathlib.Core.Path.{ap, ◌∙◌}
 use mathlib.Core.Bool.{not}
 use native.Mathlib.Omega.{arith}
@@ -7,7 +6,6 @@ use Rattle.model.specs.Layout.{lent}
 use Rattle.part_presence.proofs.Presence.{node_refused}
 use Rattle.part_presence.proofs.not_later.Goals as goal
 
--- `part_presence::not_later` meets its contract.
 pub offset_bounds-stamps-at : goal.offset_bounds-stamps-at
 offset_bounds-stamps-at c = omega (arith, c.place-at.ensures, c.requires.1)
 

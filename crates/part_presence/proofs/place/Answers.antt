@@ -1,9 +1,7 @@
 -- `part_presence::place` meets its contract: operators come first, then rides.
-use borrow.Author.Rules.{rules}
 use Rattle.part_presence.proofs.Presence.{operator_place, ride_at}
 use Rattle.part_presence.proofs.place.Goals as goal
 
--- `part_presence::place` meets its contract: operators come first, then rides.
 pub returns-then-message-le4 : goal.returns-then-message-le4
 returns-then-message-le4 c = operator_place c.args.head c.args.message c.requires c.if-message-le4.true
 

@@ -1,10 +1,8 @@
 -- `part_presence::word` meets its contract.
-use borrow.Author.Rules.{rules}
 use mathlib.Core.Path.{sym, ap, ◌∙◌}
 use Rattle.model.specs.Count.{bit}
 use Rattle.part_presence.proofs.word.Goals as goal
 
--- `part_presence::word` meets its contract.
 pub returns-then-gives : goal.returns-then-gives
 returns-then-gives c = ap bit (sym c.if-gives.true ∙ c.gives.ensures)
 

@@ -1,5 +1,4 @@
 -- `part_stamps::fill` meets its contract: the stamps are zeroed, and those of the listed pairs set.
-use borrow.Author.Rules.{rules}
 use mathlib.Core.List.{List}
 use mathlib.Core.Path.{ap, ◌∙◌}
 use Prim.Native.Nat.{ℕ}
@@ -10,7 +9,6 @@ use Rattle.arrays.proofs.Filled.{filled_at, filled_rest}
 use Rattle.part_stamps.proofs.Stamps.{stamps_filled}
 use Rattle.part_stamps.proofs.fill.Goals as goal
 
--- `part_stamps::fill` meets its contract: the stamps are zeroed, and those of the listed pairs set.
 pub stamp_pairs-requires : goal.stamp_pairs-requires
 stamp_pairs-requires c = let a = c.args in
     record { accepted_pairs = (c.requires.0, omega (arith, c.requires.1)); by_index = λ k l. ap (λ (x : List ℕ). get_or x k 0) c.fill_stamps.ensures ∙ filled_at a.stamps.now 0 0 (pair_places a.head) (omega arith) c.requires.1 k (omega arith) l }

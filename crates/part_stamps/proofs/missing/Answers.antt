@@ -1,12 +1,8 @@
 -- `part_stamps::missing` meets its contract. The loop's invariant: the pairs at the places passed have stamps.
-use borrow.Author.Rules.{rules}
-use Prim.Native.Nat.{ℕ, ◌≤◌, ◌<◌, ◌-◌}
-use mathlib.Core.Logic.{◌≢◌}
+use Prim.Native.Nat.{◌-◌}
 use native.Mathlib.Omega.{arith}
 use borrow.Author.Count.{below_more}
-use lib.ListN.{get_or}
 use Rattle.model.specs.Layout.{lent}
-use Rattle.model.specs.Contents.{pair_place}
 use Rattle.pairs.proofs.Order.{accepted_range}
 use Rattle.graph_tables.proofs.Place.{place_lt}
 use Rattle.part_stamps.proofs.Tests.{one_unstamped, all_stamped}

@@ -1,17 +1,13 @@
 -- `part_stamps::not_later` meets its contract: where a message is later than the pair's last whether that gives or not, or in neither case, the pair isn't
 -- looked up.
-use borrow.Author.Rules.{rules}
 use mathlib.Core.Path.{ap, sym, ◌∙◌}
 use mathlib.Core.Bool.{not}
 use native.Mathlib.Omega.{arith}
-use borrow.Author.Tests.{not-true, not-false}
 use Rattle.model.specs.Layout.{lent, listed_graph}
 use Rattle.graph_tables.proofs.Place.{place_lt}
 use Rattle.part_stamps.proofs.Tests.{never_later, ever_later, later_if, pair_refused}
 use Rattle.part_stamps.proofs.not_later.Goals as goal
 
--- `part_stamps::not_later` meets its contract: where a message is later than the pair's last whether that gives or not, or in neither case, the pair isn't
--- looked up.
 pub offset_bounds-stamps-at : goal.offset_bounds-stamps-at
 offset_bounds-stamps-at c = let h = c.args.head in
     omega (arith, c.place-at.ensures, place_lt h.operators h.rides _ _ c.requires.3 c.requires.4 _ c.requires.1)

@@ -1,13 +1,8 @@
 -- `part_stamps::stamp_pairs` meets its contract. The loop's invariant: the stamps are those of the first k pairs.
-use borrow.Author.Rules.{rules}
 use Prim.Native.Nat.{ℕ, ◌+◌, ◌*◌, ◌≤◌, ◌<◌, ◌-◌}
-use mathlib.Core.Path.{◌≡◌, refl, sym, ap, ◌∙◌}
-use native.Mathlib.Omega.{arith}
-use lib.ListN.{length, get_or, drop, length-set}
-use lib.Seq.{drop-set-lt}
+use mathlib.Core.Path.{◌≡◌}
+use lib.ListN.{length, get_or, drop}
 use Rattle.model.specs.Layout.{pair_places, listed}
-use Rattle.pairs.proofs.Order.{accepted_range}
-use Rattle.graph_tables.proofs.Place.{place_lt, table_more, listed_none}
 use Rattle.part_stamps.specs.Stamps.{stamp_of}
 use Rattle.part_stamps.proofs.stamp_pairs.Given as goal
 

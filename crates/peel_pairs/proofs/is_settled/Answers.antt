@@ -1,5 +1,4 @@
 -- `peel_pairs::is_settled` meets its contract.
-use borrow.Author.Rules.{rules}
 use mathlib.Core.Path.{sym, ap}
 use native.Mathlib.Omega.{arith}
 use Rattle.model.specs.Count.{bit}
@@ -8,7 +7,6 @@ use Rattle.model.proofs.Count.{test_true, test_false}
 use Rattle.model.proofs.Peel.{settled_lowest, unsettled_lowest_lt}
 use Rattle.peel_pairs.proofs.is_settled.Goals as goal
 
--- `peel_pairs::is_settled` meets its contract.
 pub returns-then-state : goal.returns-then-state
 returns-then-state c = λ g limit limits marks o. sym (ap bit (test_false (settled g limit marks) (unsettled_lowest_lt g limit marks (omega (arith, c.if-state.true, o.next, o.held.remaining.operators_are, o.held.remaining.rides_are)))))
 

@@ -1,12 +1,10 @@
 -- `peel_pairs::peel_over` meets its contract: the pairs between nodes that are here are tabulated, the list has the limits of the nodes, and `peel_tables` does the rest.
-use borrow.Author.Rules.{rules}
 use mathlib.Core.Path.{ap, ◌∙◌}
 use native.Mathlib.Omega.{arith}
 use Rattle.model.specs.Calls.{PeelOutcome}
 use Rattle.peel_pairs.proofs.Marked.{marked_ready, marked_peeled}
 use Rattle.peel_pairs.proofs.peel_over.Goals as goal
 
--- `peel_pairs::peel_over` meets its contract: the pairs between nodes that are here are tabulated, the list has the limits of the nodes, and `peel_tables` does the rest.
 pub peel_tables-requires : goal.peel_tables-requires
 peel_tables-requires c = let a = c.args in
     let read = c.tabulate-degrees.ensures _ c.present_and_marked-here.ensures in

@@ -1,15 +1,11 @@
 -- `peel_run::run` meets its contract. The loop's invariant: the steps taken and the peel from here on make up the peel.
 use borrow.Author.Rules.{rules}
-use mathlib.Core.Path.{◌≡◌, refl}
-use Prim.Native.Nat.{ℕ, ◌-◌}
+use mathlib.Core.Path.{refl}
+use Prim.Native.Nat.{◌-◌}
 use native.Mathlib.Omega.{arith}
-use lib.ListN.{length}
-use Rattle.model.specs.Graph.{Graph}
 use Rattle.model.proofs.Peel.{lowest_marked}
-use Rattle.graph_tables.specs.Table.{Tables}
-use Rattle.peel_run.specs.Steps.{StateOf}
 use Rattle.peel_run.proofs.Steps.{next_le}
-use Rattle.peel_run.proofs.Running.{same_sizes, lowered, Running, running_start, running_step, running_settled, running_spent}
+use Rattle.peel_run.proofs.Running.{same_sizes, lowered, running_start, running_step, running_settled, running_spent}
 use Rattle.peel_run.proofs.run.Goals as goal
 
 pub loop-state-init : goal.loop-state-init

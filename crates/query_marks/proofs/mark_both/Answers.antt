@@ -1,11 +1,9 @@
 -- `query_marks::mark_both` meets its contract.
-use borrow.Author.Rules.{rules}
 use native.Mathlib.Omega.{arith}
 use Rattle.query_marks.proofs.Part.{row_part}
 use Rattle.query_marks.proofs.Both.{part_long, part_bits, rides_le, both_marked}
 use Rattle.query_marks.proofs.mark_both.Goals as goal
 
--- `query_marks::mark_both` meets its contract.
 pub count_marks-rides-requires : goal.count_marks-rides-requires
 count_marks-rides-requires c = let a = c.args in
     let v = c.mark_levels-all in

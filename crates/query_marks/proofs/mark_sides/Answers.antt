@@ -1,12 +1,10 @@
 -- `query_marks::mark_sides` meets its contract.
-use borrow.Author.Rules.{rules}
 use mathlib.Core.Path.{refl}
 use native.Mathlib.Omega.{arith}
 use Rattle.query_marks.proofs.Part.{levels_part}
 use Rattle.query_marks.proofs.Sides.{sides_marked}
 use Rattle.query_marks.proofs.mark_sides.Goals as goal
 
--- `query_marks::mark_sides` meets its contract.
 pub returns : goal.returns
 returns c = let a = c.args in
     let v = c.mark_levels-operators in

@@ -1,5 +1,4 @@
 -- `query_marks::mark_zeros` meets its contract.
-use borrow.Author.Rules.{rules}
 use Prim.Native.Nat.{ℕ, ◌+◌}
 use native.Mathlib.Omega.{arith}
 use lib.ListN.{length-replicate}
@@ -7,7 +6,6 @@ use Rattle.query_marks.proofs.Part.{zeros_part}
 use Rattle.query_marks.proofs.Sides.{sides_marked}
 use Rattle.query_marks.proofs.mark_zeros.Goals as goal
 
--- `query_marks::mark_zeros` meets its contract.
 pub returns : goal.returns
 returns c = let a = c.args in
     let v = c.mark_zeros-marked_operators in

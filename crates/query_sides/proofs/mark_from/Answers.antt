@@ -1,17 +1,14 @@
 -- `query_sides::mark_from` meets its contract. The loop's invariant: the marks below i are set and counted.
-use borrow.Author.Rules.{rules}
 use mathlib.Core.Path.{◌≡◌, refl, ap}
-use mathlib.Core.Bool.{Bool, ◌&&◌}
-use mathlib.Core.List.{List}
-use Prim.Native.Nat.{ℕ, suc, ◌≤◌, ◌-◌}
+use mathlib.Core.Bool.{◌&&◌}
+use Prim.Native.Nat.{ℕ, suc, ◌-◌}
 use native.Mathlib.Omega.{arith}
-use lib.Dec.{ltb, leb}
-use lib.ListN.{length, get_or, length-set}
+use lib.Dec.{leb}
+use lib.ListN.{get_or, length-set}
 use Rattle.model.specs.Graph.{present}
-use Rattle.query_sides.proofs.Marked.{Upto, upto_none, upto_more, upto_few, upto_marked}
+use Rattle.query_sides.proofs.Marked.{upto_none, upto_more, upto_few, upto_marked}
 use Rattle.query_sides.proofs.mark_from.Goals as goal
 
--- `query_sides::mark_from` meets its contract. The loop's invariant: the marks below i are set and counted.
 pub loop-i-init : goal.loop-i-init
 loop-i-init c = (omega arith, refl, refl, upto_none _ _)
 

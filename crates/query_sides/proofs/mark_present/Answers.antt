@@ -1,13 +1,12 @@
 -- `query_sides::mark_present` meets its contract. The loop's invariant: the marks below i are set and counted.
-use borrow.Author.Rules.{rules}
-use mathlib.Core.Path.{◌≡◌, refl, sym, ap}
-use mathlib.Core.Bool.{Bool, true, ◌&&◌}
-use Prim.Native.Nat.{◌≤◌, ◌-◌}
+use mathlib.Core.Path.{refl, sym, ap}
+use mathlib.Core.Bool.{Bool, ◌&&◌}
+use Prim.Native.Nat.{◌-◌}
 use native.Mathlib.Omega.{arith}
 use borrow.Author.Tests.{le-leb}
-use lib.ListN.{length, get_or, length-set}
+use lib.ListN.{get_or, length-set}
 use Rattle.model.specs.Graph.{present}
-use Rattle.query_sides.proofs.Marked.{Upto, upto_none, upto_more, upto_few, upto_marked}
+use Rattle.query_sides.proofs.Marked.{upto_none, upto_more, upto_few, upto_marked}
 use Rattle.query_sides.proofs.mark_present.Goals as goal
 
 pub loop-i-init : goal.loop-i-init

@@ -9,7 +9,6 @@ use Rattle.refusal_table.proofs.Chain.{table_accepted}
 use Rattle.refusal_message.proofs.Message.{stamped_table, stamped_6, stamped_0}
 use Rattle.refusal_message.proofs.board_number.Goals as goal
 
--- `refusal_message::board_number` meets its contract.
 pub table_number-number-requires : goal.table_number-number-requires
 table_number-number-requires c = λ e. let p = c.requires e in (p.0, p.1)
 

@@ -1,12 +1,10 @@
 -- `refusal_message::number_on` meets its contract: the board's number first, then the message's own.
-use borrow.Author.Rules.{rules}
 use mathlib.Core.Path.{◌≡◌, sym, ◌∙◌}
 use native.Mathlib.Omega.{arith}
 use Rattle.model.specs.Layout.{lent}
 use Rattle.refusal_message.proofs.Message.{entry_invalid, entry_10, entry_0, on_board, on_entry}
 use Rattle.refusal_message.proofs.number_on.Goals as goal
 
--- `refusal_message::number_on` meets its contract: the board's number first, then the message's own.
 pub returns-then-number-ne0 : goal.returns-then-number-ne0
 returns-then-number-ne0 c = let a = c.args in
     λ index short e. on_board (lent a.head a.operators.now a.rides.now a.stamps.now a.revisions.now index a.presence_stamps.now a.presence_revisions.now a.presence.now) a.message short _ e (omega arith)

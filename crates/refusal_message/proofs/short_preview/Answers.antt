@@ -1,9 +1,8 @@
 -- `refusal_message::short_preview` meets its contract.
 -- what the call was lent
-use borrow.Author.Rules.{rules}
 use mathlib.Core.Path.{sym, ap, ◌∙◌}
 use mathlib.Core.Bool.{Bool, ◌||◌}
-use Rattle.model.specs.Layout.{Board, lent}
+use Rattle.model.specs.Layout.{lent}
 use Rattle.model.specs.Refusal.{board_short}
 use Rattle.refusal_message.proofs.short_preview.Goals as goal
 

@@ -1,8 +1,6 @@
 -- `refusal_peel::bad_marks` meets its contract. The loop's invariant: the first i marks are 0 or 1.
-use borrow.Author.Rules.{rules}
-use Prim.Native.Nat.{ℕ, ◌≤◌, ◌<◌, ◌-◌}
+use Prim.Native.Nat.{◌-◌}
 use native.Mathlib.Omega.{arith}
-use lib.ListN.{get_or}
 use borrow.Author.Count.{below_more}
 use Rattle.refusal_peel.proofs.Chain.{bad_mark, good_marks}
 use Rattle.refusal_peel.proofs.bad_marks.Goals as goal

@@ -1,11 +1,9 @@
 -- `refusal_peel::peel_number` meets its contract: 1 to 5 first, then 12.
-use borrow.Author.Rules.{rules}
 use mathlib.Core.Path.{sym, ◌∙◌}
 use native.Mathlib.Omega.{arith}
 use Rattle.refusal_peel.proofs.Chain.{peel_table, peel_12, peel_0, marks_long}
 use Rattle.refusal_peel.proofs.peel_number.Goals as goal
 
--- `refusal_peel::peel_number` meets its contract: 1 to 5 first, then 12.
 pub returns-then-number-ne0 : goal.returns-then-number-ne0
 returns-then-number-ne0 c = let a = c.args in
     peel_table a.head a.operators.now a.rides.now a.presence.now a.minimums.now a.marks.now _ c.lent_number-number.ensures (omega arith)

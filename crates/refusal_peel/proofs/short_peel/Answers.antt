@@ -1,11 +1,9 @@
 -- `refusal_peel::short_peel` meets its contract: 3, part by part.
-use borrow.Author.Rules.{rules}
 use native.Mathlib.Omega.{arith}
 use Rattle.pairs.proofs.Place.{product_fits}
 use Rattle.refusal_peel.proofs.Chain.{short_operators, short_rides, short_presence, short_minimums, short_marks}
 use Rattle.refusal_peel.proofs.short_peel.Goals as goal
 
--- `refusal_peel::short_peel` meets its contract: 3, part by part.
 pub overflow_mul-places : goal.overflow_mul-places
 overflow_mul-places c = let a = c.args in omega (arith, product_fits a.head.operators a.head.rides (omega arith) (omega arith))
 

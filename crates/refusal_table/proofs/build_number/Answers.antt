@@ -1,5 +1,4 @@
 -- `refusal_table::build_number` meets its contract: 1 to 5 first, then 9.
-use borrow.Author.Rules.{rules}
 use mathlib.Core.Bool.{Bool}
 use Rattle.model.specs.Refusal.{first_number, table_cases}
 use mathlib.Core.Path.{sym, ap, ◌∙◌}
@@ -9,7 +8,6 @@ use Rattle.refusal_table.proofs.Chain.{build_table, build_9, build_0}
 use Rattle.model.proofs.Parts.{not_short}
 use Rattle.refusal_table.proofs.build_number.Goals as goal
 
--- `refusal_table::build_number` meets its contract: 1 to 5 first, then 9.
 pub table_number-number-requires : goal.table_number-number-requires
 table_number-number-requires c = let a = c.args in
     let b = lent a.head a.operators.now a.rides.now a.stamps.now a.revisions.now a.index.now a.presence_stamps.now a.presence_revisions.now a.presence.now in

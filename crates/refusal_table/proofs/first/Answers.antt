@@ -4,7 +4,6 @@ use lib.Dec.{T}
 use Rattle.model.proofs.Chain.{first_here, first_skip}
 use Rattle.refusal_table.proofs.first.Goals as goal
 
--- `refusal_table::first` meets its contract.
 pub returns-then-applies : goal.returns-then-applies
 returns-then-applies c = λ cs e. sym (first_here _ _ cs (subst T (sym c.if-applies.true) tt))
 

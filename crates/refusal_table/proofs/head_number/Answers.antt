@@ -7,7 +7,6 @@ use Rattle.model.specs.Refusal.{first_number}
 use Rattle.pairs.proofs.Place.{product_small}
 use Rattle.refusal_table.proofs.head_number.Goals as goal
 
--- `refusal_table::head_number` meets its contract: each return rewrites with the tests that led there.
 pub returns-then-head-gt200 : goal.returns-then-head-gt200
 unfolding first_number
 returns-then-head-gt200 c = simp (lt-ltb _ _ c.if-head-gt200.true)

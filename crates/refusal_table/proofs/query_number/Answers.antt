@@ -1,11 +1,9 @@
 -- `refusal_table::query_number` meets its contract: its numbers in ascending order.
-use borrow.Author.Rules.{rules}
 use native.Mathlib.Omega.{arith}
 use Rattle.pairs.proofs.Place.{product_fits}
 use Rattle.refusal_table.proofs.Chain.{query_first}
 use Rattle.refusal_table.proofs.query_number.Goals as goal
 
--- `refusal_table::query_number` meets its contract: its numbers in ascending order.
 pub overflow_mul-m : goal.overflow_mul-m
 overflow_mul-m c = let h = c.args.head in omega (arith, product_fits h.operators h.rides (omega arith) (omega arith), product_fits h.rides h.rides (omega arith) (omega arith))
 

@@ -1,5 +1,4 @@
 -- `refusal_table::short_board` meets its contract: 3 of a board, part by part.
-use borrow.Author.Rules.{rules}
 use native.Mathlib.Omega.{arith}
 use Rattle.model.specs.Layout.{Operators, Rides, Stamps, Revisions, Index, PresenceStamps, PresenceRevisions, Presence}
 use Rattle.model.proofs.Parts.{by_part}
@@ -7,7 +6,6 @@ use Rattle.pairs.proofs.Place.{product_fits}
 use Rattle.refusal_table.proofs.Chain.{short_at, short_nowhere}
 use Rattle.refusal_table.proofs.short_board.Goals as goal
 
--- `refusal_table::short_board` meets its contract: 3 of a board, part by part.
 pub overflow_mul-places : goal.overflow_mul-places
 overflow_mul-places c = let a = c.args in omega (arith, product_fits a.head.operators a.head.rides (omega arith) (omega arith))
 

@@ -1,11 +1,9 @@
 -- `refusal_table::table_number` meets its contract: 1 to 4, and then 5.
-use borrow.Author.Rules.{rules}
 use mathlib.Core.Path.{sym, ◌∙◌}
 use native.Mathlib.Omega.{arith}
 use Rattle.refusal_table.proofs.Chain.{table_head, table_5, table_0, head_none}
 use Rattle.refusal_table.proofs.table_number.Goals as goal
 
--- `refusal_table::table_number` meets its contract: 1 to 4, and then 5.
 pub returns-then-number-ne0 : goal.returns-then-number-ne0
 returns-then-number-ne0 c = let a = c.args in
     table_head a.head a.short a.operators.now a.rides.now _ c.head_number-number.ensures (omega arith)

@@ -1,5 +1,5 @@
 -- `board::message::board_messages` ends, and its loop's invariant: with i messages delivered the list is not refused, and the turns ahead give what all of them give.
-use Prim.Native.Nat.{ℕ, ◌-◌, ◌<◌}
+use Prim.Native.Nat.{◌-◌, ◌<◌}
 use mathlib.Core.Path.{◌≡◌}
 use lib.ListN.{take, drop}
 use Rattle.model.specs.Layout.{lent}

@@ -1,11 +1,9 @@
 -- `peel_run::State::step` meets its contract.
-use borrow.Author.Rules.{rules}
 use mathlib.Core.Path.{refl}
 use native.Mathlib.Omega.{arith}
 use Rattle.peel_run.proofs.Steps.{next_le, next_looked, stepped}
 use Rattle.peel_run.proofs.State.step.Goals as goal
 
--- `peel_run::State::step` meets its contract.
 pub lowest_short-next-requires : goal.lowest_short-next-requires
 lowest_short-next-requires c = let p = c.requires.0 in
     next_looked p.0 p.1 _ _ _ p.2 c.requires.1 _ c.look_from-from.ensures
