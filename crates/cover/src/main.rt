@@ -9,7 +9,7 @@ use std::io::{Read, Write};
 
 // Reads until the buffer is full or the input ends, and answers how many bytes it put to the start of the buffer.
 fn fill<R: Read>(input: &mut R, buffer: &mut [u8]) -> io::Result<usize>
-    ensures { IfOk result (λ n. n ≤ length buffer.new) }
+    ensures { IfOk result (λ n. n ≤ length buffer.old) }
 {
     let mut done = 0;
     while done < buffer.len() {

@@ -19,7 +19,7 @@ pub struct Counted {
 
 // Reads until the buffer is full or the stream ends, and answers how many bytes it put to the start of the buffer.
 fn fill<R: Read>(input: &mut R, buffer: &mut [u8]) -> io::Result<usize>
-    ensures { IfOk result (λ n. n ≤ length buffer.new) }
+    ensures { IfOk result (λ n. n ≤ length buffer.old) }
 {
     let mut done = 0;
     while done < buffer.len() {
@@ -44,7 +44,7 @@ pub fn count<R: Read>(input: &mut R) -> io::Result<Counted> {
 
 // Reads so many bytes to the start of the buffer, of those that there are, and answers how many.
 pub fn read<R: Read>(input: &mut R, buffer: &mut [u8], bytes: usize) -> io::Result<usize>
-    ensures { IfOk result (λ n. n ≤ length buffer.new) }
+    ensures { IfOk result (λ n. n ≤ length buffer.old) }
 {
     let room = least(bytes, buffer.len());
     fill(input, &mut buffer[0..room])
@@ -52,7 +52,7 @@ pub fn read<R: Read>(input: &mut R, buffer: &mut [u8], bytes: usize) -> io::Resu
 
 // Reads the next frame to the start of the buffer, and answers how many bytes it has: 0 at the end of the stream.
 pub fn next<R: Read>(input: &mut R, buffer: &mut [u8]) -> io::Result<usize>
-    ensures { IfOk result (λ n. n ≤ length buffer.new) }
+    ensures { IfOk result (λ n. n ≤ length buffer.old) }
 {
     let words = count(input)?;
     read(input, buffer, 2 * (words.count as usize))

@@ -22,7 +22,7 @@ fn wide(b: u8) -> u16
 
 // Reads until the buffer is full or the stream ends, and answers how many bytes it put to the start of the buffer.
 fn fill<R: Read>(input: &mut R, buffer: &mut [u8]) -> io::Result<usize>
-    ensures { IfOk result (λ n. n ≤ length buffer.new) }
+    ensures { IfOk result (λ n. n ≤ length buffer.old) }
 {
     let mut done = 0;
     while done < buffer.len() {
@@ -54,7 +54,7 @@ fn least(a: usize, b: usize) -> usize
 
 // Reads so many bytes to the start of the buffer, of those that there are, and answers how many.
 fn read<R: Read>(input: &mut R, buffer: &mut [u8], bytes: usize) -> io::Result<usize>
-    ensures { IfOk result (λ n. n ≤ length buffer.new) }
+    ensures { IfOk result (λ n. n ≤ length buffer.old) }
 {
     let room = least(bytes, buffer.len());
     fill(input, &mut buffer[0..room])
