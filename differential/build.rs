@@ -8,7 +8,7 @@ fn main() {
     println!("cargo::rerun-if-changed={library}");
     if !Path::new(&library).exists() {
         println!(
-            "cargo::error=target/staticlib/libkernel.a is missing: run `rt staticlib kernel` in the repository's root"
+            "cargo::error=target/staticlib/libkernel.a is missing: run `.ci/library kernel` in the repository's root"
         );
         return;
     }

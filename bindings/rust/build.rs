@@ -1,4 +1,4 @@
-//! Links the static library that `rt staticlib board` writes.
+//! Links the static library that `.ci/library` writes.
 
 use std::path::Path;
 
@@ -8,7 +8,7 @@ fn main() {
     println!("cargo::rerun-if-changed={library}");
     if !Path::new(&library).exists() {
         println!(
-            "cargo::error=target/staticlib/libboard.a is missing: run `rt staticlib board` in the repository's root"
+            "cargo::error=target/staticlib/libboard.a is missing: run `.ci/library` in the repository's root"
         );
         return;
     }

@@ -12,9 +12,9 @@ use mathlib.Core.Option.{Option, none, some}
 use mathlib.Core.List.{List, [], ◌∷◌}
 use lib.Dec.{T}
 use seplogic.Ra.Ura.{Ura}
-use seplogic.Ra.TreeShare.{full_share}
-use mir.Syntax.{Ty, ty_unit, Place, place, deref, field, Step as PStep, Opd as Operand, copy, int, int_neg, int_big, float, opd_true, opd_false, opd_unit, ptr_const, Body, seq, assign, addr_of, aggregate}
-use mir.Val.{Val, vunit, vbool, vint, vfloat, vptr, vstruct, vnil, vcons, WT, has_ty}
+use base.Fraction.{full_share}
+use mir.Syntax.{Ty, ty_unit, Place, place, deref, field, Step as PStep, Opd as Operand, copy, int, int_neg, int_big, float, opd_true, opd_false, opd_unit, ptr_const, size_of, align_of, num_of, fn_addr, vtable, Body, seq, assign, addr_of, aggregate}
+use mir.Val.{Val, vunit, vbool, vint, vfloat, vptr, vstruct, vcode, vnil, vcons, WT, has_ty}
 use mir.Facts.{and_yes}
 use base.Logic.{SProp, wand, all, all_e, apply∗}
 use base.Fml.{fat}
@@ -58,6 +58,11 @@ reads opd_true E ms = false
 reads opd_false E ms = false
 reads opd_unit E ms = false
 reads (ptr_const n) E ms = false
+reads (size_of τ) E ms = false
+reads (align_of τ) E ms = false
+reads (num_of w τ) E ms = false
+reads (fn_addr f g) E ms = false
+reads (vtable τ ss) E ms = false
 
 -- what it reads
 abbrev pub val_of : Operand → List (Option Val) → Val
@@ -70,6 +75,11 @@ val_of opd_true ms = vunit
 val_of opd_false ms = vunit
 val_of opd_unit ms = vunit
 val_of (ptr_const n) ms = vunit
+val_of (size_of τ) ms = vunit
+val_of (align_of τ) ms = vunit
+val_of (num_of w τ) ms = vunit
+val_of (fn_addr f g) ms = vunit
+val_of (vtable τ ss) ms = vunit
 
 -- the same of a list of operands
 abbrev pub all_read : List Operand → List (Ty × ℕ) → List (Option Val) → Bool
@@ -114,6 +124,7 @@ parts (vptr b o) = (vunit, vunit)
 parts (vstruct vnil) = (vunit, vunit)
 parts (vstruct (vcons v vnil)) = (v, vunit)
 parts (vstruct (vcons v (vcons u vs))) = (v, u)
+parts (vcode f) = (vunit, vunit)
 
 -- a pointer's block and offset
 abbrev block_of : Val → ℕ × ℕ
@@ -123,6 +134,7 @@ block_of (vint w n) = (0, 0)
 block_of (vfloat f x) = (0, 0)
 block_of (vptr b o) = (b, o)
 block_of (vstruct vs) = (0, 0)
+block_of (vcode f) = (0, 0)
 
 -- a number
 abbrev count_of : Val → ℕ
@@ -132,6 +144,7 @@ count_of (vint w n) = n
 count_of (vfloat f x) = 0
 count_of (vptr b o) = 0
 count_of (vstruct vs) = 0
+count_of (vcode f) = 0
 
 -- a slice's value, put together of its parts
 abbrev slice_at : Val → Val
@@ -233,6 +246,11 @@ module _ {M : Type 1} {𝓤 : Ura M} {𝓛 : Logic 𝓤} {K : Type 0} {Γ : List
   var t n e opd_false g = absurd g
   var t n e opd_unit g = absurd g
   var t n e (ptr_const m) g = absurd g
+  var t n e (size_of τ) g = absurd g
+  var t n e (align_of τ) g = absurd g
+  var t n e (num_of w τ) g = absurd g
+  var t n e (fn_addr f h) g = absurd g
+  var t n e (vtable τ ss) g = absurd g
 
   -- all operands of a list are read
   all_vars : K → (n : ℕ) {E : Env 𝓤 H} {ms : List (Option Val)} → nth 𝓛 n Γ ≡ locals 𝓤 H E ms → (xs : List Operand) → T (all_read xs E ms) → Opds K 𝓛 Γ E xs (vals_of xs ms)

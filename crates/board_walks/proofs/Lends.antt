@@ -4,7 +4,7 @@
 --     told ys zs       what a callee's `post` says of their last lists
 --     lends_all        [κs] ∗ owned ys  ⊢ ⇛ ∃ νs δs. [νs] ∗ owned (lent_as δs ys) ∗ kept νs δs ys
 --     backs            [νs] ∗ kept νs δs ys ∗ told ys zs  ⊢ ⇛ (each as long as it was) ∧ ([κs] ∗ owned zs)
---     shares_all, shared_backs     the same of slices that are lent shared
+--     shares_all, shared_backs     the same of slices that are lent shared, which have no names then (`shown_as`). `shares_all` takes the tokens ts, which serve to share out their elements, and gives them back.        shares_all_plain      of elements that need none
 --     finish           what is owned at exit says the last lists
 -- Assumes `Logic`.
 use mathlib.Core.Path.{◌≡◌, refl, ◌∙◌}
@@ -12,24 +12,30 @@ use Prim.Native.Nat.{ℕ}
 use mathlib.Core.List.{List, [], ◌∷◌, ◌++◌}
 use lib.ListN.{length}
 use seplogic.Ra.Ura.{Ura}
-use seplogic.Ra.TreeShare.{full_share}
+use base.Fraction.{full_share}
 use mir.Syntax.{named}
 use mir.Val.{Val}
-use base.Logic.{SProp, ent, sep, ex, guard}
-use base.Fml.{GName, Fml, ftrue, fsep, flft, fres, feq}
-use types.Logic.{Logic, sem}
+use base.Logic.{SProp, ent, sep, ex, ex_i, emp, guard, id⊢}
+use base.Fml.{Lft, GName, Fml, ftrue, fsep, flft, fres, feq}
+use ghost.Rules.{Toks, span}
+use types.Logic.{Logic, sem, lfts}
 use contract.Lifetimes.{Lfts, Shares, toks}
-use types.Kit.{‵, raw, given, some, later, ◌⊛◌, ◌$◌, ◌∵◌, !, qed, move, keep, drop, use1, use2, use3, split, split3, join, pick, learn, fsplit, fjoin, feq_i, await, updating, check, now as at_once, show, done}
+use types.Kit.{‵, raw, given, some, later, ◌⊛◌, ◌$◌, ◌∵◌, !, qed, move, keep, drop, use0, use1, use2, use3, split, split3, join, pick, learn, fsplit, fjoin, feq_i, await, updating, check, now as at_once, show, done}
 use denote.RattleType.{RattleType}
 use denote.Ref.{at_last}
 use denote.Slice.{MutSlice, ShrSlice, finally, res-finally, coded_holeys, heres}
+use denote.Shares.{Shares as SharesLaw}
 use denote.Steps.{nothing}
-use Rattle.board_walks.proofs.Rows.{like, Then, Slice, Elems}
-use Rattle.board_walks.proofs.Lend.{Mine, under, Lent, Shared, lends, back, shares, shared_back}
+use Rattle.board_walks.proofs.Rows.{like, Then, Slice, SharedSlice, Elems}
+use Rattle.board_walks.proofs.Lend.{Mine, under, shown, Lent, Shared, lends, back, shares, shared_back}
 
 -- a reference for each
 abbrev pub Refs : List RattleType → Type 0
 Refs Qs = Then (like Slice Qs) (Unit {0})
+
+-- a `&` for each
+abbrev pub SharedRefs : List RattleType → Type 0
+SharedRefs Qs = Then (like SharedSlice Qs) (Unit {0})
 
 -- a list for each
 abbrev pub Lists : List RattleType → Type 0
@@ -56,7 +62,12 @@ at_lists (R ∷ Qs) xs ys = (at_last xs.0 ys.0, at_lists Qs xs.1 ys.1)
 -- the references under other names
 abbrev pub lent_as : (Qs : List RattleType) → Refs Qs → Names Qs → Lists Qs → Refs Qs
 lent_as [] xs δs ys = tt
-lent_as (R ∷ Qs) xs δs ys = (record { ref_ptr = xs.0.ptr; ghost_name = δs.0; now = ys.0 }, lent_as Qs xs.1 δs.1 ys.1)
+lent_as (R ∷ Qs) xs δs ys = (record { ref_ptr = xs.0.ref_ptr; ghost_name = δs.0; now = ys.0 }, lent_as Qs xs.1 δs.1 ys.1)
+
+-- the references as `&`, which have no name
+abbrev pub shown_as : (Qs : List RattleType) → Refs Qs → Lists Qs → SharedRefs Qs
+shown_as [] xs ys = tt
+shown_as (R ∷ Qs) xs ys = (record { ref_ptr = xs.0.ref_ptr; now = ys.0 }, shown_as Qs xs.1 ys.1)
 
 -- lifetimes that are made for the call, and their whole shares
 abbrev pub fresh : (Qs : List RattleType) → Names Qs → Lfts (length Qs)
@@ -83,6 +94,16 @@ pub same_trans : (Qs : List RattleType) (zs ys xs : Lists Qs) → Same Qs zs ys 
 same_trans [] zs ys xs e f = tt
 same_trans (R ∷ Qs) zs ys xs e f = (e.0 ∙ f.0, same_trans Qs zs.1 ys.1 xs.1 e.1 f.1)
 
+-- the lists after those of Rs, and that they too are as long as they were
+abbrev pub lists_after : (Rs Ps : List RattleType) → Lists (Rs ++ Ps) → Lists Ps
+lists_after [] Ps ys = ys
+lists_after (R ∷ Rs) Ps ys = lists_after Rs Ps ys.1
+
+-- the later lists of two tuples are as long as each other too
+pub same_after : (Rs Ps : List RattleType) (zs ys : Lists (Rs ++ Ps)) → Same (Rs ++ Ps) zs ys → Same Ps (lists_after Rs Ps zs) (lists_after Rs Ps ys)
+same_after [] Ps zs ys es = es
+same_after (R ∷ Rs) Ps zs ys es = same_after Rs Ps zs.1 ys.1 es.1
+
 -- a function of so many lists, at a tuple of them
 abbrev pub Over : List RattleType → Type 0 → Type 0
 Over [] B = B
@@ -99,7 +120,7 @@ owned [] κs xs vss = ftrue
 owned (R ∷ Qs) κs xs vss = fsep ((MutSlice (named 0) κs.0 R).own_val xs.0 vss.0) (owned Qs κs.1 xs.1 vss.1)
 
 -- what the references own where they are shared
-abbrev pub shared : (Qs : List RattleType) → Lfts (length Qs) → Refs Qs → Values Qs → Fml
+abbrev pub shared : (Qs : List RattleType) → Lfts (length Qs) → SharedRefs Qs → Values Qs → Fml
 shared [] κs xs vss = ftrue
 shared (R ∷ Qs) κs xs vss = fsep ((ShrSlice (named 0) κs.0 R).own_val xs.0 vss.0) (shared Qs κs.1 xs.1 vss.1)
 
@@ -161,22 +182,40 @@ module _ {M : Type 1} {𝓤 : Ura M} (𝓛 : Logic 𝓤) where
       move ! (2 ∷ []) $ fsplit ! $ move ! (0 ∷ 3 ∷ []) $ fjoin ! $ move ! (1 ∷ 2 ∷ []) $ join ! $ done !))
 
   -- what there is once they are lent shared
-  abbrev pub Parted : (Qs : List RattleType) (κs : Lfts (length Qs)) (qs : Shares (length Qs)) (xs : Refs Qs) (vss : Values Qs) (ys : Lists Qs) (νs δs : Names Qs) → SProp 𝓤
-  Parted Qs κs qs xs vss ys νs δs = sep 𝓤 (toks 𝓛 (length Qs) (fresh Qs νs) (fulls Qs)) (sep 𝓤 ⟦ shared Qs (fresh Qs νs) (lent_as Qs xs δs ys) vss ⟧ ⟦ kept_shared Qs κs qs xs vss νs ys ⟧)
+  abbrev pub Parted : (Qs : List RattleType) (κs : Lfts (length Qs)) (qs : Shares (length Qs)) (xs : Refs Qs) (vss : Values Qs) (ys : Lists Qs) (νs : Names Qs) → SProp 𝓤
+  Parted Qs κs qs xs vss ys νs = sep 𝓤 (toks 𝓛 (length Qs) (fresh Qs νs) (fulls Qs)) (sep 𝓤 ⟦ shared Qs (fresh Qs νs) (shown_as Qs xs ys) vss ⟧ ⟦ kept_shared Qs κs qs xs vss νs ys ⟧)
+
+  -- tokens that reach l serve to share out an element of each type
+  abbrev pub SharesLaws : List RattleType → Lft → Type 1
+  SharesLaws [] l = Unit {1}
+  SharesLaws (R ∷ Qs) l = SharesLaw 𝓛 R l × SharesLaws Qs l
 
   -- all are lent shared
-  pub shares_all : (Qs : List RattleType) (κs : Lfts (length Qs)) (qs : Shares (length Qs)) (xs : Refs Qs) (vss : Values Qs) (ys : Lists Qs)
-      → ent 𝓤 (sep 𝓤 (toks 𝓛 (length Qs) κs qs) ⟦ owned Qs κs (at_lists Qs xs ys) vss ⟧) (H.⇛ (ex 𝓤 (λ (νs : Names Qs). ex 𝓤 (λ (δs : Names Qs). Parted Qs κs qs xs vss ys νs δs))))
-  shares_all [] κs qs xs vss ys =
-      qed 𝓛 (‵ ftrue ∷ ‵ ftrue ∷ []) ∵ updating ! $ at_once ! $ show ! (λ (νs : Unit {0}). ex 𝓤 (λ (δs : Unit {0}). Parted [] κs qs xs vss ys νs δs)) tt $ show ! (λ (δs : Unit {0}). Parted [] κs qs xs vss ys tt δs) tt $ nothing ! $ done !
-  shares_all (R ∷ Qs) κs qs xs vss ys =
-      qed 𝓛 ((‵ (flft κs.0 qs.0) ⊛ raw (toks 𝓛 (length Qs) κs.1 qs.1)) ∷ ‵ (owned (R ∷ Qs) κs (at_lists (R ∷ Qs) xs ys) vss) ∷ []) ∵ updating ! $ split ! $ move ! (2 ∷ []) $ fsplit ! $ move ! (0 ∷ 2 ∷ []) $ fjoin ! $
-      use1 𝓛 (later (some (λ (ν : ℕ). some (λ (δ : GName). ‵ (flft (ν ∷ []) full_share) ⊛ ‵ ((ShrSlice (named 0) (ν ∷ []) R).own_val (under R κs.0 qs.0 xs.0 vss.0 δ ys.0) vss.0) ⊛ ‵ (Shared R κs.0 qs.0 xs.0 vss.0 ν ys.0)))))
-      (shares R κs.0 qs.0 xs.0 vss.0 𝓛 ys.0) $ await ! tt $ pick ! (λ ν. pick ! (λ δ. split3 ! $
-      move ! (4 ∷ 3 ∷ []) $ use2 𝓛 (later (some (λ (νs : Names Qs). some (λ (δs : Names Qs). raw (toks 𝓛 (length Qs) (fresh Qs νs) (fulls Qs)) ⊛ ‵ (shared Qs (fresh Qs νs) (lent_as Qs xs.1 δs ys.1) vss.1) ⊛ ‵ (kept_shared Qs κs.1 qs.1 xs.1 vss.1 νs ys.1)))))
-      (shares_all Qs κs.1 qs.1 xs.1 vss.1 ys.1) $ await ! tt $ pick ! (λ νs. pick ! (λ δs. split3 ! $ at_once ! $
-      show ! (λ (ns : Names (R ∷ Qs)). ex 𝓤 (λ (ds : Names (R ∷ Qs)). Parted (R ∷ Qs) κs qs xs vss ys ns ds)) (ν, νs) $ show ! (λ (ds : Names (R ∷ Qs)). Parted (R ∷ Qs) κs qs xs vss ys (ν, νs) ds) (δ, δs) $
-      move ! (5 ∷ 2 ∷ []) $ fjoin ! $ move ! (4 ∷ 2 ∷ []) $ fjoin ! $ move ! (3 ∷ 2 ∷ []) $ join ! $ done !))))
+  pub shares_all : (Qs : List RattleType) (ts : Toks) → SharesLaws Qs (span ts) → (κs : Lfts (length Qs)) (qs : Shares (length Qs)) (xs : Refs Qs) (vss : Values Qs) (ys : Lists Qs)
+      → ent 𝓤 (sep 𝓤 (sep 𝓤 (toks 𝓛 (length Qs) κs qs) ⟦ owned Qs κs (at_lists Qs xs ys) vss ⟧) (lfts 𝓛 ts)) (H.⇛ (sep 𝓤 (ex 𝓤 (λ (νs : Names Qs). Parted Qs κs qs xs vss ys νs)) (lfts 𝓛 ts)))
+  shares_all [] ts laws κs qs xs vss ys =
+      qed 𝓛 ((‵ ftrue ⊛ ‵ ftrue) ∷ raw (lfts 𝓛 ts) ∷ []) ∵ updating ! $ split ! $ at_once ! $ nothing ! $ move ! (1 ∷ 0 ∷ []) $ join ! $ move ! (1 ∷ 0 ∷ []) $ join ! $
+      use1 𝓛 (raw (ex 𝓤 (λ (νs : Unit {0}). Parted [] κs qs xs vss ys νs))) (ex_i 𝓤 (λ (νs : Unit {0}). Parted [] κs qs xs vss ys νs) tt) $ done !
+  shares_all (R ∷ Qs) ts laws κs qs xs vss ys =
+      qed 𝓛 (((‵ (flft κs.0 qs.0) ⊛ raw (toks 𝓛 (length Qs) κs.1 qs.1)) ⊛ ‵ (owned (R ∷ Qs) κs (at_lists (R ∷ Qs) xs ys) vss)) ∷ raw (lfts 𝓛 ts) ∷ []) ∵ updating ! $ split ! $ split ! $ move ! (2 ∷ []) $ fsplit ! $
+      -- [the slice; the other slices; its token; the other tokens; the tokens ts]
+      move ! (0 ∷ 2 ∷ []) $ fjoin ! $ move ! (0 ∷ 3 ∷ []) $
+      use2 𝓛 (later (some (λ (ν : ℕ). ‵ (flft (ν ∷ []) full_share) ⊛ ‵ ((ShrSlice (named 0) (ν ∷ []) R).own_val (shown R κs.0 qs.0 xs.0 vss.0 ys.0) vss.0) ⊛ ‵ (Shared R κs.0 qs.0 xs.0 vss.0 ν ys.0)) ⊛ raw (lfts 𝓛 ts)))
+      (shares R κs.0 qs.0 xs.0 vss.0 𝓛 ts laws.0 ys.0) $ await ! tt $ split ! $ pick ! (λ ν. split3 ! $
+      -- [token; slice; lender's part; the tokens ts; the other slices; the other tokens]
+      move ! (5 ∷ 4 ∷ []) $ join ! $ move ! (0 ∷ 4 ∷ []) $
+      use2 𝓛 (later (some (λ (νs : Names Qs). raw (toks 𝓛 (length Qs) (fresh Qs νs) (fulls Qs)) ⊛ ‵ (shared Qs (fresh Qs νs) (shown_as Qs xs.1 ys.1) vss.1) ⊛ ‵ (kept_shared Qs κs.1 qs.1 xs.1 vss.1 νs ys.1)) ⊛ raw (lfts 𝓛 ts)))
+      (shares_all Qs ts laws.1 κs.1 qs.1 xs.1 vss.1 ys.1) $ await ! tt $ split ! $ pick ! (λ νs. split3 ! $ at_once ! $
+      -- [tokens; slices; lenders' parts; the tokens ts; token; slice; lender's part]
+      move ! (6 ∷ 2 ∷ []) $ fjoin ! $ move ! (5 ∷ 2 ∷ []) $ fjoin ! $ join ! $ move ! (3 ∷ 1 ∷ []) $ join ! $ join ! $
+      use1 𝓛 (raw (ex 𝓤 (λ (ns : Names (R ∷ Qs)). Parted (R ∷ Qs) κs qs xs vss ys ns))) (ex_i 𝓤 (λ (ns : Names (R ∷ Qs)). Parted (R ∷ Qs) κs qs xs vss ys ns) (ν, νs)) $ done !))
+
+  -- the same of elements that need no token
+  pub shares_all_plain : (Qs : List RattleType) → SharesLaws Qs [] → (κs : Lfts (length Qs)) (qs : Shares (length Qs)) (xs : Refs Qs) (vss : Values Qs) (ys : Lists Qs)
+      → ent 𝓤 (sep 𝓤 (toks 𝓛 (length Qs) κs qs) ⟦ owned Qs κs (at_lists Qs xs ys) vss ⟧) (H.⇛ (ex 𝓤 (λ (νs : Names Qs). Parted Qs κs qs xs vss ys νs)))
+  shares_all_plain Qs laws κs qs xs vss ys =
+      qed 𝓛 ((raw (toks 𝓛 (length Qs) κs qs) ⊛ ‵ (owned Qs κs (at_lists Qs xs ys) vss)) ∷ []) ∵ updating ! $ use0 𝓛 (raw (emp 𝓤)) (id⊢ 𝓤 (emp 𝓤)) $ move ! (1 ∷ 0 ∷ []) $
+      use2 𝓛 (later (raw (ex 𝓤 (λ (νs : Names Qs). Parted Qs κs qs xs vss ys νs)) ⊛ raw (emp 𝓤))) (shares_all Qs [] laws κs qs xs vss ys) $ await ! tt $ split ! $ at_once ! $ keep ! (0 ∷ []) $ done !
 
   -- all come back, as they were
   pub shared_backs : (Qs : List RattleType) (κs : Lfts (length Qs)) (qs : Shares (length Qs)) (xs : Refs Qs) (vss : Values Qs) (νs : Names Qs) (ys : Lists Qs)
@@ -194,7 +233,7 @@ module _ {M : Type 1} {𝓤 : Ura M} (𝓛 : Logic 𝓤) where
   finish [] κs xs vss zs es = qed 𝓛 (‵ ftrue ∷ []) ∵ done !
   finish (R ∷ Qs) κs xs vss zs es =
       qed 𝓛 (‵ (owned (R ∷ Qs) κs (at_lists (R ∷ Qs) xs zs) vss) ∷ []) ∵ fsplit ! $ fsplit ! $ drop ! $ fsplit ! $
-      use1 𝓛 (‵ (fres xs.0.name ((coded_holeys R).code (heres R zs.0)))) (𝓛.names.obs-res xs.0.name ((coded_holeys R).code (heres R zs.0))) $
+      use1 𝓛 (‵ (fres xs.0.ghost_name ((coded_holeys R).code (heres R zs.0)))) (𝓛.names.obs-res xs.0.ghost_name ((coded_holeys R).code (heres R zs.0))) $
       use1 𝓛 (‵ (finally R xs.0.ghost_name zs.0)) (res-finally 𝓛 (named 0) κs.0 R xs.0.ghost_name zs.0) $ feq_i ! ℕ (length zs.0) (length xs.0.now) es.0 $ move ! (1 ∷ 0 ∷ []) $ fjoin ! $
       -- [what is said of the slice; its borrow; the others]
       move ! (2 ∷ []) $ use1 𝓛 (‵ (told Qs xs.1 zs.1)) (finish Qs κs.1 xs.1 vss.1 zs.1 es.1) $ keep ! (1 ∷ 0 ∷ []) $ fjoin ! $ done !

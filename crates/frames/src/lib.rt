@@ -2,10 +2,13 @@
 // a line of text for each call.
 #![tactic(auto)]
 
-ghost use Rattle.std.specs.Prelude.{◌≤◌, ◌<◌};
+ghost use Rattle.std.specs.Prelude.{◌≤◌, ◌<◌, ◌++◌, ◌∷◌, [], length, IfOk, OnOk};
+ghost use Rattle.std.specs.Fmt.{decimal};
+ghost use Rattle.std.specs.Io.KnownBytes.{Appends};
 
-use libc::{STDIN_FILENO, STDOUT_FILENO};
 use model::{Head, Message};
+use std::io;
+use std::io::{Read, Write};
 
 // The next count of a stream, and whether the stream had one more.
 #[derive(Clone, Copy)]
@@ -14,30 +17,45 @@ pub struct Counted {
     pub count: u16,
 }
 
+// Reads until the buffer is full or the stream ends, and answers how many bytes it put to the start of the buffer.
+fn fill<R: Read>(input: &mut R, buffer: &mut [u8]) -> io::Result<usize>
+    ensures { IfOk result (λ n. n ≤ length buffer.old) }
+{
+    let mut done = 0;
+    while done < buffer.len() {
+        let more = input.read(&mut buffer[done..])?;
+        if more == 0 {
+            break;
+        }
+        done += more;
+    }
+    Ok(done)
+}
+
 // Reads the next count of the stream.
-pub fn count() -> Counted {
+pub fn count<R: Read>(input: &mut R) -> io::Result<Counted> {
     let mut bytes = [0u8; 2];
-    let read = io::read_full(STDIN_FILENO, &mut bytes);
-    Counted {
+    let read = fill(input, &mut bytes)?;
+    Ok(Counted {
         more: read == 2,
         count: word(&bytes, 0),
-    }
+    })
 }
 
 // Reads so many bytes to the start of the buffer, of those that there are, and answers how many.
-pub fn read(buffer: &mut [u8], bytes: usize) -> usize
-    ensures* { do ⌜ result ≤ (← (⟦buffer.len()⟧).entry) ⌝ }
+pub fn read<R: Read>(input: &mut R, buffer: &mut [u8], bytes: usize) -> io::Result<usize>
+    ensures { IfOk result (λ n. n ≤ length buffer.old) }
 {
     let room = least(bytes, buffer.len());
-    least(io::read_full(STDIN_FILENO, &mut buffer[0..room]), room)
+    fill(input, &mut buffer[0..room])
 }
 
 // Reads the next frame to the start of the buffer, and answers how many bytes it has: 0 at the end of the stream.
-pub fn next(buffer: &mut [u8]) -> usize
-    ensures* { do ⌜ result ≤ (← (⟦buffer.len()⟧).entry) ⌝ }
+pub fn next<R: Read>(input: &mut R, buffer: &mut [u8]) -> io::Result<usize>
+    ensures { IfOk result (λ n. n ≤ length buffer.old) }
 {
-    let words = count();
-    read(buffer, 2 * (words.count as usize))
+    let words = count(input)?;
+    read(input, buffer, 2 * (words.count as usize))
 }
 
 // The smaller of the two.
@@ -111,13 +129,15 @@ pub fn only(condition: bool, number: usize) -> usize
 }
 
 // Writes one of a call's numbers, and a space.
-pub fn print(number: u16) {
-    io::print_decimal(STDOUT_FILENO, number as u64);
-    io::write_all(STDOUT_FILENO, b" ");
+pub fn print<W: Write>(out: &mut W, number: u16) -> io::Result<()>
+    ensures { OnOk result (Appends (W.contents out.old) (W.contents out.new) (decimal number ++ 32 ∷ [])) }
+{
+    write!(out, "{number} ")
 }
 
 // Writes the checksum, and ends the line.
-pub fn print_checksum(sum: u64) {
-    io::print_decimal(STDOUT_FILENO, sum);
-    io::write_all(STDOUT_FILENO, b"\n");
+pub fn print_checksum<W: Write>(out: &mut W, sum: u64) -> io::Result<()>
+    ensures { OnOk result (Appends (W.contents out.old) (W.contents out.new) (decimal sum ++ 10 ∷ [])) }
+{
+    writeln!(out, "{sum}")
 }

@@ -8,13 +8,14 @@ use native.Mathlib.Omega.{arith}
 use lib.Dec.{T}
 use lib.ListN.{length}
 use Rattle.model.specs.declared.Message.{Message}
-use Rattle.model.specs.Layout.{Part, Operators, Rides, Parts, Board, places, of_parts}
+use Rattle.model.specs.Layout.{Part, Operators, Rides, Stamps, Revisions, PresenceStamps, PresenceRevisions, Presence, Parts, Board, places, of_parts}
 use Rattle.model.specs.Refusal.{refused_3, refused_6, refused_10, board_short, first_number, table_cases, board_cases, valid_cases, message_cases, message_refusal, preview_refusal, list_refusal}
 use Rattle.model.proofs.Count.{test_false, or_left}
 use Rattle.model.proofs.Chain.{last_here, last_skip, Positive, front_is, behind_is}
 use Rattle.model.proofs.Parts.{board_long}
 use Rattle.model.proofs.Refusal.{table_unrefused, positive_valid}
 use Rattle.refusal_table.proofs.Chain.{table_first, table_rest, table_accepted}
+use Rattle.refusal_message.specs.Ready.{Ready}
 use Rattle.refusal_message.specs.Room.{Room}
 
 -- the number behind those of a pair table
@@ -84,3 +85,16 @@ module _ (b : Board) (short : Bool) where
   pub list_of : (messages : ℕ) (answers : List ℕ) → short ≡ (board_short b || refused_3 messages answers) → first_number (board_cases b short) ≡ list_refusal b messages answers
   unfolding list_refusal
   list_of messages answers e = ap (λ (t : Bool). first_number (board_cases b t)) e
+
+-- a board with such room is ready
+pub room_ready :
+    {b : Board} → Room b →
+    Ready b.head (b.part Operators) (b.part Rides) (b.part Stamps) (b.part Revisions) (b.part PresenceStamps) (b.part PresenceRevisions) (b.part Presence)
+room_ready r = record {
+  pairs = r.pairs;
+  stamps_long = r.long Stamps tt;
+  revisions_long = r.long Revisions tt;
+  presence_stamps_long = r.long PresenceStamps tt;
+  presence_revisions_long = r.long PresenceRevisions tt;
+  presence_long = r.long Presence tt;
+}

@@ -5,7 +5,7 @@ ghost use Rattle.std.specs.Prelude.{◌≡◌, Bool, false, ◌||◌, List, ◌+
 ghost use Rattle.model.specs.Layout.{parts, lent, pair_places};
 ghost use Rattle.model.specs.Refusal.{refused_3, refused_10, board_short, first_number, board_cases, valid_cases, message_cases};
 ghost use Rattle.model.specs.Refusal.{message_refusal, preview_refusal, list_refusal};
-ghost use Rattle.refusal_message.specs.Room.{Room};
+ghost use Rattle.refusal_message.specs.Ready.{Ready};
 
 use model::{Head, Message};
 use refusal_table::{short_board, table_number};
@@ -39,8 +39,7 @@ pub fn not_later(
     presence_revisions: &[u16],
     presence: &[u16],
 ) -> bool
-    requires { ((index : List ℕ) × Room (lent head operators.now rides.now stamps.now revisions.now index
-        presence_stamps.now presence_revisions.now presence.now)) ×
+    requires { Ready head operators.now rides.now stamps.now revisions.now presence_stamps.now presence_revisions.now presence.now ×
         (first_number (valid_cases head message) ≡ 0) }
     ensures { (index : List ℕ) → result ≡ refused_10
         (lent head operators.now rides.now stamps.now revisions.now index
@@ -66,8 +65,7 @@ fn number_on(
     presence: &[u16],
 ) -> u16
     requires { number ≡ 0 →
-        ((index : List ℕ) × Room (lent head operators.now rides.now stamps.now revisions.now index
-        presence_stamps.now presence_revisions.now presence.now)) }
+        Ready head operators.now rides.now stamps.now revisions.now presence_stamps.now presence_revisions.now presence.now }
     ensures { (index : List ℕ) (short : Bool) →
         number ≡ first_number
         (board_cases (lent head operators.now rides.now stamps.now revisions.now index

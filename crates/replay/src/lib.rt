@@ -2,9 +2,12 @@
 #![tactic(auto)]
 
 use replay_memory::Lent;
+use std::io;
+use std::io::{Read, Write};
 
 // Makes the call of a frame, writes its answer's numbers, and answers the checksum of the head where a call changes it, or 0.
-fn call(
+fn call<W: Write>(
+    out: &mut W,
     frame: &[u8],
     lent: Lent,
     operators: &mut [u16; 12300],
@@ -18,10 +21,11 @@ fn call(
     minimums: &mut [u16; 70],
     marks: &mut [u16; 270],
     answers: &mut [u16; 70],
-) -> u64 {
+) -> io::Result<u64> {
     let kind = frames::word(frame, 0);
     if kind < 4 || kind == 8 {
         replay_tables::call(
+            out,
             frame,
             lent,
             operators,
@@ -34,13 +38,16 @@ fn call(
             presence,
             minimums,
             marks,
-        );
-        0
+        )?;
+        Ok(0)
     } else if 5 < kind {
-        replay_crowds::call(frame, lent, operators, rides, presence, minimums, marks);
-        0
+        replay_crowds::call(
+            out, frame, lent, operators, rides, presence, minimums, marks,
+        )?;
+        Ok(0)
     } else {
         replay_messages::call(
+            out,
             frame,
             lent,
             operators,
@@ -57,7 +64,8 @@ fn call(
 }
 
 // Replays a frame, and writes its line.
-fn step(
+fn step<W: Write>(
+    out: &mut W,
     frame: &[u8],
     operators: &mut [u16; 12300],
     rides: &mut [u16; 12300],
@@ -70,7 +78,7 @@ fn step(
     minimums: &mut [u16; 70],
     marks: &mut [u16; 270],
     answers: &mut [u16; 70],
-) {
+) -> io::Result<()> {
     let lent = replay_memory::load(
         frame,
         operators,
@@ -86,6 +94,7 @@ fn step(
         answers,
     );
     let head = call(
+        out,
         frame,
         lent,
         operators,
@@ -99,8 +108,8 @@ fn step(
         minimums,
         marks,
         answers,
-    );
-    frames::print_checksum(replay_memory::checksum(
+    )?;
+    let sum = replay_memory::checksum(
         head,
         lent,
         operators,
@@ -114,11 +123,12 @@ fn step(
         minimums,
         marks,
         answers,
-    ));
+    );
+    frames::print_checksum(out, sum)
 }
 
 // Replays the stream, with memory that stays from call to call. A stream has fewer calls than the bound.
-pub fn run() {
+pub fn run<R: Read, W: Write>(input: &mut R, out: &mut W) -> io::Result<()> {
     let mut buffer = [0u8; 131070];
     let mut operators = [0u16; 12300];
     let mut rides = [0u16; 12300];
@@ -132,11 +142,12 @@ pub fn run() {
     let mut marks = [0u16; 270];
     let mut answers = [0u16; 70];
     for _ in 0..1000000u32 {
-        let bytes = frames::next(&mut buffer);
+        let bytes = frames::next(input, &mut buffer)?;
         if bytes == 0 {
-            return;
+            return Ok(());
         }
         step(
+            out,
             &buffer[0..bytes],
             &mut operators,
             &mut rides,
@@ -149,6 +160,7 @@ pub fn run() {
             &mut minimums,
             &mut marks,
             &mut answers,
-        );
+        )?;
     }
+    Ok(())
 }

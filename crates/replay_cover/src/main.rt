@@ -1,9 +1,10 @@
 // Replays inputs of the program `cover`, and writes the output of each (reference/README.md).
 #![tactic(auto)]
 
-ghost use Rattle.std.specs.Prelude.{◌≤◌, ◌<◌};
+ghost use Rattle.std.specs.Prelude.{◌≤◌, ◌<◌, length, IfOk};
 
-use libc::{STDIN_FILENO, STDOUT_FILENO};
+use std::io;
+use std::io::{Read, Write};
 
 // The count of bytes of the next input, and whether the stream had one more.
 #[derive(Clone, Copy)]
@@ -19,14 +20,29 @@ fn wide(b: u8) -> u16
     b as u16
 }
 
+// Reads until the buffer is full or the stream ends, and answers how many bytes it put to the start of the buffer.
+fn fill<R: Read>(input: &mut R, buffer: &mut [u8]) -> io::Result<usize>
+    ensures { IfOk result (λ n. n ≤ length buffer.old) }
+{
+    let mut done = 0;
+    while done < buffer.len() {
+        let more = input.read(&mut buffer[done..])?;
+        if more == 0 {
+            break;
+        }
+        done += more;
+    }
+    Ok(done)
+}
+
 // Reads the next count of the stream.
-fn count() -> Counted {
+fn count<R: Read>(input: &mut R) -> io::Result<Counted> {
     let mut bytes = [0u8; 2];
-    let read = io::read_full(STDIN_FILENO, &mut bytes);
-    Counted {
+    let read = fill(input, &mut bytes)?;
+    Ok(Counted {
         more: read == 2,
         count: wide(bytes[0]) + 256 * wide(bytes[1]),
-    }
+    })
 }
 
 // The smaller of the two.
@@ -37,38 +53,41 @@ fn least(a: usize, b: usize) -> usize
 }
 
 // Reads so many bytes to the start of the buffer, of those that there are, and answers how many.
-fn read(buffer: &mut [u8], bytes: usize) -> usize
-    ensures { result ≤ length buffer.new }
+fn read<R: Read>(input: &mut R, buffer: &mut [u8], bytes: usize) -> io::Result<usize>
+    ensures { IfOk result (λ n. n ≤ length buffer.old) }
 {
     let room = least(bytes, buffer.len());
-    least(io::read_full(STDIN_FILENO, &mut buffer[0..room]), room)
+    fill(input, &mut buffer[0..room])
 }
 
 // Writes the first bytes of an output.
-fn write(out: &[u8], size: usize) {
+fn write<W: Write>(to: &mut W, out: &[u8], size: usize) -> io::Result<()> {
     let n = least(size, out.len());
-    io::write_all(STDOUT_FILENO, &out[0..n]);
+    to.write_all(&out[0..n])
 }
 
-fn write_text(text: &[u8; 8192], size: usize) {
-    write(text, size);
+fn write_text<W: Write>(to: &mut W, text: &[u8; 8192], size: usize) -> io::Result<()> {
+    write(to, text, size)
 }
 
-fn answer(input: &[u8]) {
+fn answer<W: Write>(to: &mut W, input: &[u8]) -> io::Result<()> {
     let mut text = [0u8; 8192];
     let size = cover_report::cover_text(input, &mut text);
-    write_text(&text, size);
+    write_text(to, &text, size)
 }
 
 // A stream has fewer inputs than the bound.
-fn main() {
+fn main(rt: HostRuntime) -> io::Result<()> {
+    let mut input = rt.stdin();
+    let mut out = rt.stdout();
     let mut buffer = [0u8; 65535];
     for _ in 0..1000000u32 {
-        let bytes = count();
+        let bytes = count(&mut input)?;
         if !bytes.more {
-            return;
+            return Ok(());
         }
-        let n = read(&mut buffer, bytes.count as usize);
-        answer(&buffer[0..n]);
+        let n = read(&mut input, &mut buffer, bytes.count as usize)?;
+        answer(&mut out, &buffer[0..n])?;
     }
+    Ok(())
 }

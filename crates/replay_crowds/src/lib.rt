@@ -3,6 +3,8 @@
 
 use model::{Band, Bands};
 use replay_memory::Lent;
+use std::io;
+use std::io::Write;
 
 // The band at a place of a frame.
 fn band_at(frame: &[u8], at: usize) -> Band {
@@ -26,15 +28,16 @@ fn table_at(frame: &[u8], at: usize) -> Bands {
     }
 }
 
-fn limits(frame: &[u8]) {
+fn limits<W: Write>(out: &mut W, frame: &[u8]) -> io::Result<()> {
     let guests = frames::word(frame, 1);
     let found = crowd_bands::crowd_limits(table_at(frame, 2), guests);
-    frames::print(found.code);
-    frames::print(found.alpha);
-    frames::print(found.beta);
+    frames::print(out, found.code)?;
+    frames::print(out, found.alpha)?;
+    frames::print(out, found.beta)
 }
 
-fn cover(
+fn cover<W: Write>(
+    out: &mut W,
     frame: &[u8],
     lent: Lent,
     operators: &[u16],
@@ -42,7 +45,7 @@ fn cover(
     presence: &[u16],
     minimums: &[u16],
     marks: &mut [u16],
-) {
+) -> io::Result<()> {
     let guests = frames::word(frame, 4);
     let o = frames::least(lent.operators, operators.len());
     let r = frames::least(lent.rides, rides.len());
@@ -59,13 +62,14 @@ fn cover(
         &minimums[0..n],
         &mut marks[0..m],
     );
-    frames::print(counts.code);
-    frames::print(counts.operators);
-    frames::print(counts.rides);
+    frames::print(out, counts.code)?;
+    frames::print(out, counts.operators)?;
+    frames::print(out, counts.rides)
 }
 
 // Makes the call of a frame that takes a crowd table, and writes its answer's numbers.
-pub fn call(
+pub fn call<W: Write>(
+    out: &mut W,
     frame: &[u8],
     lent: Lent,
     operators: &[u16],
@@ -73,10 +77,12 @@ pub fn call(
     presence: &[u16],
     minimums: &[u16],
     marks: &mut [u16],
-) {
+) -> io::Result<()> {
     if frames::word(frame, 0) == 6 {
-        limits(frame)
+        limits(out, frame)
     } else {
-        cover(frame, lent, operators, rides, presence, minimums, marks)
+        cover(
+            out, frame, lent, operators, rides, presence, minimums, marks,
+        )
     }
 }

@@ -1,6 +1,8 @@
 // Replays deliveries of messages (reference/README.md).
 #![tactic(auto)]
 
-fn main() {
-    replay::run();
+use std::io;
+
+fn main(rt: HostRuntime) -> io::Result<()> {
+    replay::run(&mut rt.stdin(), &mut rt.stdout())
 }

@@ -1,7 +1,7 @@
 // The memory that the replays lend: set as a frame says, and its checksum.
-// The checksum of a frame's head, with so many pairs by now.
 #![tactic(auto)]
 
+// The checksum of a frame's head, with so many pairs by now.
 pub fn head_checksum(frame: &[u8], pairs: u16) -> u64 {
     let words = [frames::word(frame, 1), frames::word(frame, 2), pairs];
     lent_parts::checksum(0, 3, &words)

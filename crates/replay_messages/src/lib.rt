@@ -3,6 +3,8 @@
 
 use message_taking::Delivered;
 use replay_memory::Lent;
+use std::io;
+use std::io::Write;
 
 // Delivers the message at a place of the frame, to a board that has so many pairs by now.
 fn deliver_at(
@@ -85,7 +87,8 @@ fn first_at(frame: &[u8]) -> usize {
 }
 
 // How many messages of a frame are delivered: one, or all of a list if its own number, which is written, is 0.
-fn count(
+fn count<W: Write>(
+    out: &mut W,
     frame: &[u8],
     operators: &[u16],
     rides: &[u16],
@@ -96,9 +99,9 @@ fn count(
     presence_revisions: &[u16],
     presence: &[u16],
     answers: &[u16],
-) -> usize {
+) -> io::Result<usize> {
     if is_message(frame) {
-        return 1;
+        return Ok(1);
     }
     let messages = frames::word(frame, 4) as usize;
     let code = refusal_message::list_number(
@@ -114,20 +117,22 @@ fn count(
         presence,
         answers,
     );
-    frames::print(code);
-    frames::only(code == 0, messages)
+    frames::print(out, code)?;
+    Ok(frames::only(code == 0, messages))
 }
 
 // Writes the answer's numbers, if the frame is a message.
-fn print_answer(frame: &[u8], delivered: Delivered) {
+fn print_answer<W: Write>(out: &mut W, frame: &[u8], delivered: Delivered) -> io::Result<()> {
     if is_message(frame) {
-        frames::print(delivered.code);
-        frames::print(delivered.differ);
+        frames::print(out, delivered.code)?;
+        frames::print(out, delivered.differ)?;
     }
+    Ok(())
 }
 
 // Delivers the messages of a frame, and answers the count of pairs after them.
-fn deliver(
+fn deliver<W: Write>(
+    out: &mut W,
     frame: &[u8],
     operators: &mut [u16],
     rides: &mut [u16],
@@ -138,8 +143,9 @@ fn deliver(
     presence_revisions: &mut [u16],
     presence: &mut [u16],
     answers: &mut [u16],
-) -> u16 {
+) -> io::Result<u16> {
     let messages = count(
+        out,
         frame,
         operators,
         rides,
@@ -150,7 +156,7 @@ fn deliver(
         presence_revisions,
         presence,
         answers,
-    );
+    )?;
     let delivered = deliver_all(
         frame,
         first_at(frame),
@@ -165,13 +171,14 @@ fn deliver(
         presence,
         answers,
     );
-    print_answer(frame, delivered);
-    delivered.pairs
+    print_answer(out, frame, delivered)?;
+    Ok(delivered.pairs)
 }
 
 // Makes the call of a frame that is a message or a message list, with what it lends of each part, writes its answer's numbers, and answers the
 // checksum of the head.
-pub fn call(
+pub fn call<W: Write>(
+    out: &mut W,
     frame: &[u8],
     lent: Lent,
     operators: &mut [u16],
@@ -183,8 +190,9 @@ pub fn call(
     presence_revisions: &mut [u16],
     presence: &mut [u16],
     answers: &mut [u16],
-) -> u64 {
+) -> io::Result<u64> {
     let pairs = deliver(
+        out,
         frame,
         lent_parts::first(operators, lent.operators),
         lent_parts::first(rides, lent.rides),
@@ -195,6 +203,6 @@ pub fn call(
         lent_parts::first(presence_revisions, lent.presence_revisions),
         lent_parts::first(presence, lent.presence),
         lent_parts::first(answers, lent.answers),
-    );
-    replay_memory::head_checksum(frame, pairs)
+    )?;
+    Ok(replay_memory::head_checksum(frame, pairs))
 }

@@ -4,8 +4,11 @@
 
 use frames::head;
 use replay_memory::Lent;
+use std::io;
+use std::io::Write;
 
-fn build(
+fn build<W: Write>(
+    out: &mut W,
     frame: &[u8],
     lent: Lent,
     operators: &mut [u16],
@@ -16,7 +19,7 @@ fn build(
     presence_stamps: &mut [u32],
     presence_revisions: &mut [u16],
     presence: &mut [u16],
-) {
+) -> io::Result<()> {
     let start = frames::long(frame, 4);
     let code = call_build::build(
         head(frame),
@@ -30,10 +33,17 @@ fn build(
         lent_parts::first(presence_revisions, lent.presence_revisions),
         lent_parts::first(presence, lent.presence),
     );
-    frames::print(code);
+    frames::print(out, code)
 }
 
-fn query(frame: &[u8], lent: Lent, index: &[u16], presence: &[u16], marks: &mut [u16]) {
+fn query<W: Write>(
+    out: &mut W,
+    frame: &[u8],
+    lent: Lent,
+    index: &[u16],
+    presence: &[u16],
+    marks: &mut [u16],
+) -> io::Result<()> {
     let alpha = frames::word(frame, 4);
     let beta = frames::word(frame, 5);
     let i = frames::least(lent.index, index.len());
@@ -47,12 +57,13 @@ fn query(frame: &[u8], lent: Lent, index: &[u16], presence: &[u16], marks: &mut 
         beta,
         &mut marks[0..m],
     );
-    frames::print(counts.code);
-    frames::print(counts.operators);
-    frames::print(counts.rides);
+    frames::print(out, counts.code)?;
+    frames::print(out, counts.operators)?;
+    frames::print(out, counts.rides)
 }
 
-fn peel(
+fn peel<W: Write>(
+    out: &mut W,
     frame: &[u8],
     lent: Lent,
     operators: &[u16],
@@ -60,7 +71,7 @@ fn peel(
     presence: &[u16],
     minimums: &[u16],
     marks: &mut [u16],
-) {
+) -> io::Result<()> {
     let alpha = frames::word(frame, 4);
     let beta = frames::word(frame, 5);
     let steps = frames::word(frame, 6);
@@ -80,12 +91,13 @@ fn peel(
         beta,
         steps,
     );
-    frames::print(peeled.code);
-    frames::print(peeled.settled);
-    frames::print(peeled.steps);
+    frames::print(out, peeled.code)?;
+    frames::print(out, peeled.settled)?;
+    frames::print(out, peeled.steps)
 }
 
-fn own_cover(
+fn own_cover<W: Write>(
+    out: &mut W,
     frame: &[u8],
     lent: Lent,
     operators: &[u16],
@@ -93,7 +105,7 @@ fn own_cover(
     presence: &[u16],
     minimums: &[u16],
     marks: &mut [u16],
-) {
+) -> io::Result<()> {
     let alpha = frames::word(frame, 4);
     let beta = frames::word(frame, 5);
     let o = frames::least(lent.operators, operators.len());
@@ -111,13 +123,14 @@ fn own_cover(
         beta,
         &mut marks[0..m],
     );
-    frames::print(counts.code);
-    frames::print(counts.operators);
-    frames::print(counts.rides);
+    frames::print(out, counts.code)?;
+    frames::print(out, counts.operators)?;
+    frames::print(out, counts.rides)
 }
 
 // Makes the call of a frame that is a build, a query, a peel or a cover with minimums, and writes its answer's numbers.
-pub fn call(
+pub fn call<W: Write>(
+    out: &mut W,
     frame: &[u8],
     lent: Lent,
     operators: &mut [u16],
@@ -130,9 +143,10 @@ pub fn call(
     presence: &mut [u16],
     minimums: &[u16],
     marks: &mut [u16],
-) {
+) -> io::Result<()> {
     match frames::word(frame, 0) {
         1 => build(
+            out,
             frame,
             lent,
             operators,
@@ -144,8 +158,12 @@ pub fn call(
             presence_revisions,
             presence,
         ),
-        2 => query(frame, lent, index, presence, marks),
-        3 => peel(frame, lent, operators, rides, presence, minimums, marks),
-        _ => own_cover(frame, lent, operators, rides, presence, minimums, marks),
+        2 => query(out, frame, lent, index, presence, marks),
+        3 => peel(
+            out, frame, lent, operators, rides, presence, minimums, marks,
+        ),
+        _ => own_cover(
+            out, frame, lent, operators, rides, presence, minimums, marks,
+        ),
     }
 }

@@ -1,6 +1,5 @@
 -- `call_build::build` meets its contract: it refuses, or stamps the pairs, zeroes the revisions, sets everybody on and in, fills the index and zeroes the
 -- tails.
--- the board that the call was lent
 use mathlib.Core.Path.{◌≡◌, sym, ◌∙◌}
 use native.Mathlib.Omega.{arith}
 use Rattle.model.specs.Layout.{Operators, Rides, Stamps, Revisions, Index, PresenceStamps, PresenceRevisions, Presence, lent}

@@ -2,7 +2,7 @@
 use mathlib.Core.Path.{◌≡◌, sym, ◌∙◌}
 use native.Mathlib.Omega.{arith}
 use Rattle.model.specs.Layout.{lent}
-use Rattle.refusal_message.proofs.Message.{entry_invalid, entry_10, entry_0}
+use Rattle.refusal_message.proofs.Message.{entry_invalid, entry_10, entry_0, room_ready}
 use Rattle.message_entry.proofs.Entering.{entered_none, entered_refused}
 use Rattle.message_entry.proofs.enter_valid.Goals as goal
 
@@ -14,7 +14,7 @@ returns-then-number-ne0 c = let a = c.args in
 
 pub not_later-requires : goal.not_later-requires
 not_later-requires c = let z : c.valid_number-number.result ≡ 0 = omega (arith, c.if-number-ne0.false) in
-    (c.requires, sym c.valid_number-number.ensures ∙ z)
+    (room_ready c.requires.1, sym c.valid_number-number.ensures ∙ z)
 
 pub returns-then-not_later : goal.returns-then-not_later
 returns-then-not_later c = let a = c.args in

@@ -1,5 +1,4 @@
 -- `message_on_copy::take_on_copy` meets its contract: the board copied, and the message taken on the copy.
--- the board that the call was lent
 use mathlib.Core.Path.{◌∙◌}
 use Rattle.model.specs.Layout.{parts, lent}
 use Rattle.message_on_copy.proofs.OnCopy.{both_long, copy_none, taken_there}

@@ -1,5 +1,4 @@
 -- `message_taking::take` meets its contract: the message is entered, and the index is that of the pairs that then count.
--- the board that the call was lent
 use Rattle.model.specs.Layout.{lent}
 use Rattle.message_taking.proofs.Taken.{take_ready, fill_ready, take_done}
 use Rattle.message_taking.proofs.take.Goals as goal
