@@ -11,7 +11,7 @@ import sys
 
 TOKEN = re.compile(r"[^\s(){}\[\],.;:`«»⟦⟧@λ\"=]+")
 HYPHEN = re.compile(r"[\w']+(?:-[\w'']+)+")
-MADE = re.compile(r"^(Need|After|Lts|At|In|Then|Else|invariant|decreases|loop|returns)-")
+MADE = re.compile(r"^((Need|After|Lts|At|In|Then|Else|invariant|decreases|loop)-|returns-\d)")
 # Names of the library that the repository's files cite.
 KEPT = set(
     """le-ltb eq-eqb length-append get_or-set_other get_or-append lt-ltb get_or-take length-take-le get_or-set_same length-set zero-add length-take add-one

@@ -13,7 +13,7 @@ use mathlib.Core.List.{List, [], ◌∷◌, ◌++◌}
 use lib.ListN.{length}
 use seplogic.Ra.Ura.{Ura}
 use base.Fraction.{full_share}
-use mir.Syntax.{named}
+use mir.Syntax.{named, w16, w32}
 use mir.Val.{Val}
 use base.Logic.{SProp, ent, sep, ex, ex_i, emp, guard, id⊢}
 use base.Fml.{Lft, GName, Fml, ftrue, fsep, flft, fres, feq}
@@ -22,6 +22,8 @@ use types.Logic.{Logic, sem, lfts}
 use contract.Lifetimes.{Lfts, Shares, toks}
 use types.Kit.{‵, raw, given, some, later, ◌⊛◌, ◌$◌, ◌∵◌, !, qed, move, keep, drop, use0, use1, use2, use3, split, split3, join, pick, learn, fsplit, fjoin, feq_i, await, updating, check, now as at_once, show, done}
 use denote.RattleType.{RattleType}
+use denote.Builtin.{u16, u32}
+use denote.Copied.{uint_Copied}
 use denote.Ref.{at_last}
 use denote.Slice.{MutSlice, ShrSlice, finally, res-finally, coded_holeys, heres}
 use denote.Shares.{Shares as SharesLaw}
@@ -189,6 +191,10 @@ module _ {M : Type 1} {𝓤 : Ura M} (𝓛 : Logic 𝓤) where
   abbrev pub SharesLaws : List RattleType → Lft → Type 1
   SharesLaws [] l = Unit {1}
   SharesLaws (R ∷ Qs) l = SharesLaw 𝓛 R l × SharesLaws Qs l
+
+  -- words and stamps need no token
+  pub words_share : SharesLaws (u16 ∷ u32 ∷ []) []
+  words_share = ((uint_Copied 𝓛 w16).shares full_share [], ((uint_Copied 𝓛 w32).shares full_share [], tt))
 
   -- all are lent shared
   pub shares_all : (Qs : List RattleType) (ts : Toks) → SharesLaws Qs (span ts) → (κs : Lfts (length Qs)) (qs : Shares (length Qs)) (xs : Refs Qs) (vss : Values Qs) (ys : Lists Qs)

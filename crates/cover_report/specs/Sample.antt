@@ -3,7 +3,7 @@ use Rattle.std.specs.Prelude.{◌≡◌, List, [], ◌∷◌, ℕ, ◌/◌, ◌%
 use Rattle.cover_text.specs.Text.{bytes}
 use Rattle.cover_report.specs.Program.{cover_text}
 
--- the bytes of 16-bit little_endian words
+-- the bytes of 16-bit little-endian words
 abbrev pub little_endian : List ℕ → List ℕ
 little_endian [] = []
 little_endian (w ∷ ws) = w % 256 ∷ w / 256 ∷ little_endian ws

@@ -52,7 +52,7 @@ only_three =
       case_three = λ b start calls c e.
           let t = table b start e in
           ap (λ (x : Board). case x c) (board_is_book b start calls e) ∙ case_written b.head t.few_operators t.few_rides (book b.head (b.part Operators) (b.part Rides) start calls) (valid_book b start calls e) c;
-      returns-three = λ b start calls c e s.
+      returns_three = λ b start calls c e s.
           let t = table b start e in
           ap (λ (x : Board). returned x c) (board_is_book b start calls e) ∙ returned_short b.head t.few_operators t.few_rides (book b.head (b.part Operators) (b.part Rides) start calls) c s;
     }

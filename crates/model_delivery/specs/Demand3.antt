@@ -26,7 +26,7 @@ BoardIsBook =
 pub record OnlyThree : Type 0 where
   pub case_three : (b : Board) (start : ℕ) (calls : List Call) (c : Call) → build_refusal b start ≡ 0 →
       case (run (built_board b start) calls) c ≡ elim (too_short b.head c) [ true ↦ 3 | false ↦ 0 ]
-  pub returns-three : (b : Board) (start : ℕ) (calls : List Call) (c : Call) → build_refusal b start ≡ 0 → T (too_short b.head c) →
+  pub returns_three : (b : Board) (start : ℕ) (calls : List Call) (c : Call) → build_refusal b start ≡ 0 → T (too_short b.head c) →
       returned (run (built_board b start) calls) c ≡ 3
 
 -- e is a latest entry for a slot: one that no entry for it is later than
