@@ -1,4 +1,4 @@
--- Inner contracts: a board of which a message's own numbers can be told, and into which it can be entered.
+-- Inner contracts: a board into which a message can be entered.
 use Rattle.std.specs.Prelude.{Bool, true, false, ◌≤◌, T, length}
 use Rattle.model.specs.Layout.{Part, Operators, Rides, Stamps, Revisions, Index, PresenceStamps, PresenceRevisions, Presence, Board, places}
 use Rattle.pairs.specs.Accepted.{AcceptedPairs}

@@ -6,6 +6,7 @@ use mathlib.Core.List.{List, [], ◌∷◌, ◌++◌}
 use Prim.Native.Nat.{ℕ, ◌≤◌, ◌<◌}
 use native.Mathlib.Omega.{arith}
 use borrow.Author.Tests.{eq-eqb, ne_eqb, not-true, not-false}
+use lib.Dec.{T}
 use lib.ListN.{length}
 use Rattle.model.specs.declared.Head.{Head}
 use Rattle.model.specs.Layout.{Part, Operators, Rides, Board, pair_places, mark_places, index_places, places}
@@ -119,3 +120,7 @@ table_accepted h short operators rides u a b =
       rides_long = omega (arith, u.few_pairs);
       ordered = u.ordered;
     }
+
+-- where none of 1 to 5 applies, nor one behind them, no part is too short
+pub table_long : (h : Head) (short : Bool) (operators rides : List ℕ) (cs : List (ℕ × Bool)) → first_number (table_cases h short operators rides ++ cs) ≡ 0 → T short → ⊥
+table_long h short operators rides cs e = (first_none 2 short _ (first_none 1 (refused_2 h) _ (first_none 0 (refused_1 h) _ e).1).1).0
