@@ -33,4 +33,5 @@ pub extern "C" fn board_crowd_cover(
     call_crowd_cover::crowd_cover(
         head, operators, rides, presence, bands, guests, minimums, marks,
     )
+    .unwrap_or_else(Counts::from)
 }

@@ -3,15 +3,18 @@
 #![tactic(auto)]
 
 ghost use Rattle.std.specs.Prelude.{◌≡◌};
-ghost use Rattle.model.specs.Layout.{lent};
+ghost use Rattle.model.specs.Layout.{Board, lent};
 ghost use Rattle.model.specs.Calls.{board_build, board_query, board_peel, board_own_cover};
-ghost use Rattle.model.specs.Outcome.{queried, peel_left, build_left};
+ghost use Rattle.model.specs.Outcome.{queried, peel_left, build_left, answered};
+ghost use Rattle.message_taking.specs.Deliver.{outcome_of};
 
 pub mod crowd; // crowd.rt: look-up and cover for a guest count
 pub mod message; // message.rt: message and message list
 pub mod preview; // preview.rt: preview
 
-use model::{Counts, Head, Peeled};
+use model::{Answer, Counts, Head, Peeled};
+use part_board::BoardMut;
+use refusal_kind::Refusal;
 
 // Zeroes the tails of the pair arrays and the revisions, stamps the listed pairs, sets everybody on and in and fills the index.
 #[unsafe(no_mangle)]
@@ -32,18 +35,31 @@ pub extern "C" fn board_build(
         ≡ board_build (lent head operators.old rides.old stamps.old revisions.old index.old
         presence_stamps.old presence_revisions.old presence.old) start }
 {
-    call_build::build(
+    let mut board = BoardMut {
         head,
         operators,
         rides,
-        start,
         stamps,
         revisions,
         index,
         presence_stamps,
         presence_revisions,
         presence,
-    )
+    };
+    Refusal::number_of(call_build::build(&mut board, start))
+}
+
+// What a message or a preview answers: 0 and how many index words differ, or the number of its refusal and 0.
+fn answer_of(delivered: Result<u16, Refusal>) -> Answer
+    ensures { (b : Board) → answered result b ≡ outcome_of delivered b }
+{
+    match delivered {
+        Ok(differ) => Answer { code: 0, differ },
+        Err(refusal) => Answer {
+            code: refusal.number(),
+            differ: 0,
+        },
+    }
 }
 
 // Marks who is present and in cover (alpha, beta) by the levels of the index, and answers the counts of operators and rides marked.
@@ -82,6 +98,7 @@ pub extern "C" fn board_peel(
     call_peel::peel(
         head, operators, rides, presence, minimums, marks, alpha, beta, steps,
     )
+    .unwrap_or_else(Peeled::from)
 }
 
 // Marks the cover with minimums, found from all ones, and answers the counts of operators and rides marked.
@@ -103,4 +120,5 @@ pub extern "C" fn board_own_cover(
     call_own_cover::own_cover(
         head, operators, rides, presence, minimums, alpha, beta, marks,
     )
+    .unwrap_or_else(Counts::from)
 }

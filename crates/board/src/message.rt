@@ -4,7 +4,10 @@ ghost use Rattle.model.specs.Layout.{lent};
 ghost use Rattle.model.specs.Message.{board_message, board_messages};
 ghost use Rattle.model.specs.Outcome.{answered, listed_out};
 
+use crate::answer_of;
 use model::{Answer, Head, Message};
+use part_board::BoardMut;
+use refusal_kind::Refusal;
 
 // Message.
 #[unsafe(no_mangle)]
@@ -27,9 +30,8 @@ pub extern "C" fn board_message(
         presence_stamps.old presence_revisions.old presence.old)
         message }
 {
-    let d = call_message::deliver(
-        *head,
-        message,
+    let mut board = BoardMut {
+        head: *head,
         operators,
         rides,
         stamps,
@@ -38,12 +40,10 @@ pub extern "C" fn board_message(
         presence_stamps,
         presence_revisions,
         presence,
-    );
-    head.pairs = d.pairs;
-    Answer {
-        code: d.code,
-        differ: d.differ,
-    }
+    };
+    let delivered = call_message::deliver(&mut board, message);
+    *head = board.head;
+    answer_of(delivered)
 }
 
 // Message list: the messages have their turns in order, unless 1 to 6 refuse all of them.
@@ -69,9 +69,8 @@ pub extern "C" fn board_messages(
         presence_stamps.old presence_revisions.old presence.old)
         messages.now answers.old }
 {
-    let t = call_message_list::list_turns(
-        *head,
-        messages.len(),
+    let mut board = BoardMut {
+        head: *head,
         operators,
         rides,
         stamps,
@@ -80,28 +79,8 @@ pub extern "C" fn board_messages(
         presence_stamps,
         presence_revisions,
         presence,
-        answers,
-    );
-    let mut i = 0;
-    while i < t.turns {
-        let message = messages[i];
-        let turns = t.turns;
-        head.pairs = call_message_list::turn(
-            *head,
-            message,
-            i,
-            turns,
-            operators,
-            rides,
-            stamps,
-            revisions,
-            index,
-            presence_stamps,
-            presence_revisions,
-            presence,
-            answers,
-        );
-        i += 1;
-    }
-    t.code
+    };
+    let delivered = call_message_list::deliver_list(&mut board, messages, answers);
+    *head = board.head;
+    Refusal::number_of(delivered)
 }

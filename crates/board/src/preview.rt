@@ -4,7 +4,9 @@ ghost use Rattle.model.specs.Layout.{lent};
 ghost use Rattle.model.specs.Message.{board_preview};
 ghost use Rattle.model.specs.Outcome.{answered};
 
+use crate::answer_of;
 use model::{Answer, Head, Message};
+use part_board::{BoardMut, BoardRef};
 
 // Preview: the answer, and in the spare memory the words, that the message would give on a copy of the board.
 #[unsafe(no_mangle)]
@@ -39,10 +41,8 @@ pub extern "C" fn board_preview(
         spare_revisions.old spare_index.old
         spare_presence_stamps.old spare_presence_revisions.old spare_presence.old) }
 {
-    let p = call_preview::preview(
+    let board = BoardRef {
         head,
-        message,
-        *spare_head,
         operators,
         rides,
         stamps,
@@ -51,15 +51,19 @@ pub extern "C" fn board_preview(
         presence_stamps,
         presence_revisions,
         presence,
-        spare_operators,
-        spare_rides,
-        spare_stamps,
-        spare_revisions,
-        spare_index,
-        spare_presence_stamps,
-        spare_presence_revisions,
-        spare_presence,
-    );
-    *spare_head = p.head;
-    p.answer
+    };
+    let mut spare = BoardMut {
+        head: *spare_head,
+        operators: spare_operators,
+        rides: spare_rides,
+        stamps: spare_stamps,
+        revisions: spare_revisions,
+        index: spare_index,
+        presence_stamps: spare_presence_stamps,
+        presence_revisions: spare_presence_revisions,
+        presence: spare_presence,
+    };
+    let previewed = call_preview::preview(board, message, &mut spare);
+    *spare_head = spare.head;
+    answer_of(previewed)
 }

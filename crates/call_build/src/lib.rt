@@ -2,50 +2,50 @@
 #![tactic(auto)]
 
 ghost use Rattle.std.specs.Prelude.{◌≡◌};
-ghost use Rattle.model.specs.Layout.{lent};
+ghost use Rattle.model.specs.Refusal.{build_refusal};
 ghost use Rattle.model.specs.Calls.{board_build};
 ghost use Rattle.model.specs.Outcome.{build_left};
+ghost use Rattle.part_board.specs.Lent.{mut_board, SameParts};
+ghost use Rattle.refusal_kind.specs.Number.{number_of};
 
-use model::Head;
+use pairs::PairTable;
+use part_board::BoardMut;
+use refusal_kind::Refusal;
 
 // Zeroes the tails of the pair arrays and the revisions, stamps the listed pairs, sets everybody on and in and fills the index.
-pub fn build(
-    head: Head,
-    operators: &mut [u16],
-    rides: &mut [u16],
-    start: u32,
-    stamps: &mut [u32],
-    revisions: &mut [u16],
-    index: &mut [u16],
-    presence_stamps: &mut [u32],
-    presence_revisions: &mut [u16],
-    presence: &mut [u16],
-) -> u16
-    ensures { build_left result (lent head operators.new rides.new stamps.new revisions.new index.new
-        presence_stamps.new presence_revisions.new presence.new)
-        ≡ board_build (lent head operators.old rides.old stamps.old revisions.old index.old
-        presence_stamps.old presence_revisions.old presence.old) start }
+fn fill_parts(board: &mut BoardMut<'_>, start: u32)
+    requires { build_refusal (mut_board board.old) start ≡ 0 }
+    ensures same { SameParts board.old board.new }
+    ensures head { board.new.head ≡ board.old.head }
+    ensures outcome { build_left 0 (mut_board board.new) ≡ board_build (mut_board board.old) start }
 {
-    let number = refusal_table::build_number(
+    let head = board.head;
+    let places = head.operators as usize * head.rides as usize;
+    let table = PairTable {
         head,
-        operators,
-        rides,
-        start,
-        stamps,
-        revisions,
-        index,
-        presence_stamps,
-        presence_revisions,
+        operators: &mut *board.operators,
+        rides: &mut *board.rides,
+    };
+    let presence = &mut *board.presence;
+    part_stamps::fill(table, start, board.stamps);
+    arrays::fill(board.revisions, 0, places, 0);
+    part_presence::set_all(
+        head,
+        board.presence_stamps,
+        board.presence_revisions,
         presence,
     );
-    if number != 0 {
-        return number;
-    }
-    let places = head.operators as usize * head.rides as usize;
-    part_stamps::fill(head, operators, rides, start, stamps);
-    arrays::fill(revisions, 0, places, 0);
-    part_presence::set_all(head, presence_stamps, presence_revisions, presence);
-    index_fill::fill_index(head, operators, rides, presence, index);
-    pairs_change::clear_tails(head, operators, rides);
-    0
+    index_fill::fill_index(table, presence, board.index);
+    pairs_change::clear_tails(head, board.operators, board.rides);
+}
+
+// Build: refused, or all parts are filled.
+pub fn build(board: &mut BoardMut<'_>, start: u32) -> Result<(), Refusal>
+    ensures same { SameParts board.old board.new }
+    ensures head { board.new.head ≡ board.old.head }
+    ensures outcome { build_left (number_of result) (mut_board board.new) ≡ board_build (mut_board board.old) start }
+{
+    refusal_table::check_build(board.as_ref(), start)?;
+    fill_parts(board, start);
+    Ok(())
 }

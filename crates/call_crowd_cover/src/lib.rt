@@ -4,9 +4,12 @@
 ghost use Rattle.std.specs.Prelude.{◌≡◌};
 ghost use Rattle.model.specs.Crowd.{board_crowd_cover};
 ghost use Rattle.model.specs.Outcome.{queried};
+ghost use Rattle.refusal_kind.specs.Told.{counts_of};
 
-use limits_cover_pairs::refused;
+use limits_cover_pairs::cover_present;
 use model::{Bands, Counts, Head};
+use refusal_kind::Refusal;
+use refusal_peel::check_lent;
 
 // Marks the cover for a guest count with minimums, and answers the counts of operators and rides marked.
 pub fn crowd_cover(
@@ -18,28 +21,12 @@ pub fn crowd_cover(
     guests: u16,
     minimums: &[u16],
     marks: &mut [u16],
-) -> Counts
-    ensures { queried result marks.new
+) -> Result<Counts, Refusal>
+    ensures { queried (counts_of result) marks.new
         ≡ board_crowd_cover head operators.now rides.now presence.now bands guests minimums.now
         marks.old }
 {
-    let number = refusal_peel::lent_number(head, operators, rides, presence, minimums, marks);
-    if number != 0 {
-        return refused(number);
-    }
-    let words = crowd_bands::words(bands);
-    let found = crowd_bands::find(bands.count, &words, guests);
-    if found.number != 0 {
-        return refused(found.number);
-    }
-    limits_cover_pairs::cover_present(
-        head,
-        operators,
-        rides,
-        presence,
-        minimums,
-        found.alpha,
-        found.beta,
-        marks,
-    )
+    let table = check_lent(head, operators, rides, presence, minimums, marks)?;
+    let limits = crowd_bands::find(&bands, guests)?;
+    Ok(cover_present(table, presence, minimums, limits.alpha, limits.beta, marks))
 }

@@ -6,9 +6,9 @@ use Rattle.model.specs.declared.Message.{Message}
 use Rattle.model.specs.Layout.{Board}
 use Rattle.model.specs.Refusal.{message_refusal}
 use Rattle.model.specs.Message.{board_message}
+use Rattle.model.specs.Outcome.{answered}
 use Rattle.model.proofs.Taken.{message_refused}
-use Rattle.message_taking.specs.Deliver.{outcome_of}
 
-pub deliver_refused : (b : Board) (m : Message) (k : ℕ) → k ≡ message_refusal b m → k ≢ 0 → outcome_of (record { code = k; differ = 0; pairs = b.head.pairs }) b ≡ board_message b m
+pub deliver_refused : (b : Board) (m : Message) (k : ℕ) → k ≡ message_refusal b m → k ≢ 0 → answered (record { code = k; differ = 0 }) b ≡ board_message b m
 deliver_refused b m zero e n = absurd (n refl)
 deliver_refused b m (suc k) e n = sym (message_refused b m k (sym e))

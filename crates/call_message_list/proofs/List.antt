@@ -19,20 +19,15 @@ use Rattle.model.specs.Refusal.{refused_10, first_number, valid_cases, message_r
 use Rattle.model.specs.Message.{MessageOutcome, board_after, board_message, ListOutcome, in_order}
 use Rattle.model.specs.Outcome.{listed_out}
 use Rattle.model.proofs.Count.{test_true, test_ext, some_holds, some_witness, length_rows}
-use Rattle.model.proofs.Parts.{by_part}
 use Rattle.model.proofs.Refusal.{Accepted, message_accepted, list_none, list_accepted}
 use Rattle.model.proofs.Contents.{length_words, index_words}
 use Rattle.model.proofs.Taken.{message_taken, message_refused, message_code, accepted_message}
 use Rattle.message_list_end.specs.Ending.{filled_index}
 use Rattle.message_entry.specs.Enter.{with_index, entered_valid}
 use Rattle.call_message_list.specs.Once.{finished, turned, turns}
-use Rattle.call_message_list.proofs.Once.{accepted_with, turn_taken, turn_refused, turn_accepted}
+use Rattle.call_message_list.proofs.Once.{with_own, accepted_with, turn_taken, turn_refused, turn_accepted}
 
 -- ---- boards that differ in the index alone
-
--- a board with its own index
-with_own : (b : Board) → with_index b (b.part Index) ≡ b
-with_own b = λ j. record { head = b.head; part = λ p. by_part (λ q. (with_index b (b.part Index)).part q ≡ b.part q) refl refl refl refl refl refl refl refl p j }
 
 module _ (b : Board) (index : List ℕ) where
   -- the contents don't look at the index

@@ -10,7 +10,7 @@ use lib.ListN.{length, set}
 use Rattle.model.specs.declared.Message.{Message}
 use Rattle.model.specs.Layout.{Operators, Rides, Stamps, Revisions, Index, PresenceStamps, PresenceRevisions, Presence, Board, mark_places, index_places, places, board_graph}
 use Rattle.model.specs.Refusal.{message_refusal, list_refusal}
-use Rattle.model.specs.Message.{board_after, board_message}
+use Rattle.model.specs.Message.{board_after, board_message, ListOutcome}
 use Rattle.model.specs.Outcome.{listed_out}
 use Rattle.model.proofs.Count.{by_test}
 use Rattle.model.proofs.Parts.{by_part}
@@ -22,19 +22,13 @@ use Rattle.message_entry.specs.Enter.{with_index, entered, number_of, entered_va
 use Rattle.message_entry.proofs.Entering.{entered_none, entered_refused}
 use Rattle.pairs.proofs.Table.{accepted_pairs}
 use Rattle.message_entry.proofs.Next.{room_of}
-use Rattle.message_list_end.specs.Ending.{filled_index, index_turned}
+use Rattle.message_list_end.specs.Ending.{index_turned}
 use Rattle.message_list_end.proofs.Ending.{index_last, index_on}
-use Rattle.call_message_list.specs.Once.{finished, turned, turns_of}
+use Rattle.call_message_list.specs.Once.{finished, turned}
 
--- ---- a list's number
-
-pub all_turns : (code messages : ℕ) → code ≡ 0 → record { code = code; turns = messages } ≡ turns_of code messages
-all_turns zero messages e = refl
-all_turns (suc k) messages e = absurd (let z : ⊥ = omega (arith, e) in z)
-
-pub no_turns : (code messages : ℕ) → (code ≡ 0 → ⊥) → record { code = code; turns = 0 } ≡ turns_of code messages
-no_turns zero messages n = absurd (n refl)
-no_turns (suc k) messages n = refl
+-- a board with its own index
+pub with_own : (b : Board) → with_index b (b.part Index) ≡ b
+with_own b = λ j. record { head = b.head; part = λ p. by_part (λ q. (with_index b (b.part Index)).part q ≡ b.part q) refl refl refl refl refl refl refl refl p j }
 
 -- ---- one turn
 
@@ -83,11 +77,11 @@ module _ (b : Board) (m : Message) (n : ℕ) (answers : List ℕ) (none : list_r
 
   -- x is the board once the message is entered, and code the message's number
   module _ (code : ℕ) (x : Board) (done : (code ≡ number_of b m) × (x ≡ entered_valid b m)) where
-    pub turn_ready : AcceptedPairs x.head (x.part Operators) (x.part Rides) × (mark_places x.head ≤ length (x.part Presence)) × (index_places x.head ≤ length (b.part Index))
+    pub turn_ready : AcceptedPairs x.head (x.part Operators) (x.part Rides) × (mark_places x.head ≤ length (x.part Presence)) × (index_places x.head ≤ length (x.part Index))
     turn_ready =
-        let e = turn_accepted b m accepted in
-        subst (λ (y : Board). AcceptedPairs y.head (y.part Operators) (y.part Rides) × (mark_places y.head ≤ length (y.part Presence)) × (index_places y.head ≤ length (b.part Index))) (sym done.1)
-        (accepted_pairs (entered_valid b m) e.0.table, e.0.table.long Presence, e.1)
+        let t = (turn_accepted b m accepted).0.table in
+        subst (λ (y : Board). AcceptedPairs y.head (y.part Operators) (y.part Rides) × (mark_places y.head ≤ length (y.part Presence)) × (index_places y.head ≤ length (y.part Index))) (sym done.1)
+        (accepted_pairs (entered_valid b m) t, t.long Presence, t.long Index)
 
     module _ (at : ℕ) where
       abbrev numbers : ℕ → List ℕ
@@ -96,33 +90,19 @@ module _ (b : Board) (m : Message) (n : ℕ) (answers : List ℕ) (none : list_r
       same_numbers : numbers code ≡ numbers (board_message b m).answer.code
       same_numbers = ap numbers (done.0 ∙ sym (message_accepted b m accepted) ∙ sym (message_code b m))
 
-      -- the board with its index as it came
-      own_index : with_index x (b.part Index) ≡ entered_valid b m
-      unfolding board_after
-      own_index = ap (λ (y : Board). with_index y (b.part Index)) done.1 ∙ go (message_refusal b m) refl
-        where
-          own : (y : Board) → with_index y (y.part Index) ≡ y
-          own y = λ j. record { head = y.head; part = λ p. by_part (λ q. (with_index y (y.part Index)).part q ≡ y.part q) refl refl refl refl refl refl refl refl p j }
-
-          go : (k : ℕ) → message_refusal b m ≡ k → with_index (entered_valid b m) (b.part Index) ≡ entered_valid b m
-          go zero e = subst (λ (y : Board). with_index y (b.part Index) ≡ y) (sym (turn_taken b m accepted e)) refl
-          go (suc k) e = subst (λ (y : Board). with_index y (b.part Index) ≡ y) (sym (turn_refused b m accepted k e)) (own b)
-
-      turn_on : at + 1 ≢ n → listed_out 0 (with_index x (b.part Index)) (numbers code) ≡ turned n b m at answers
+      turn_on : at + 1 ≢ n → listed_out 0 x (numbers code) ≡ turned n b m at answers
       unfolding turned
-      turn_on ne = ap₂ (listed_out 0) own_index same_numbers ∙ rw (ne_eqb (at + 1) n ne, turned)
+      turn_on ne = ap₂ (listed_out 0) done.1 same_numbers ∙ rw (ne_eqb (at + 1) n ne, turned)
 
-      turn_last : at + 1 ≡ n → (index : List ℕ) → index ≡ filled_index n (board_graph x) (b.part Index) (numbers code) → listed_out 0 (with_index x index) (numbers code) ≡ turned n b m at answers
+      turn_last : at + 1 ≡ n → listed_out 0 (finished n x (numbers code)) (numbers code) ≡ turned n b m at answers
       unfolding turned
-      turn_last e index i =
-          ap (λ (l : List ℕ). listed_out 0 (with_index x l) (numbers code)) i ∙
-          ap₂ (λ (y : Board) (l : List ℕ). listed_out 0 (finished n y l) l) own_index same_numbers ∙
-          rw (eq-eqb (at + 1) n e, turned)
+      turn_last e = ap₂ (λ (y : Board) (l : List ℕ). listed_out 0 (finished n y l) l) done.1 same_numbers ∙ rw (eq-eqb (at + 1) n e, turned)
 
-      pub turn_done : (index : List ℕ) → index ≡ index_turned at n (board_graph x) (b.part Index) (numbers code) → listed_out 0 (with_index x index) (numbers code) ≡ turned n b m at answers
-      turn_done index i =
+      pub turn_done : listed_out 0 (with_index x (index_turned at n (board_graph x) (x.part Index) (numbers code))) (numbers code) ≡ turned n b m at answers
+      turn_done =
+          let with_words : List ℕ → ListOutcome = λ l. listed_out 0 (with_index x l) (numbers code) in
           by_test (eqb (at + 1) n)
-          (λ t. let e = eqb→eq (at + 1) n t in turn_last e index (i ∙ index_last at n _ _ _ e))
+          (λ t. let e = eqb→eq (at + 1) n t in ap with_words (index_last at n _ _ _ e) ∙ turn_last e)
           (λ f.
           let ne : at + 1 ≢ n = λ e. f (subst T (sym (eq-eqb (at + 1) n e)) tt) in
-          ap (λ (l : List ℕ). listed_out 0 (with_index x l) (numbers code)) (i ∙ index_on at n _ _ _ ne) ∙ turn_on ne)
+          ap with_words (index_on at n _ _ _ ne) ∙ ap (λ (y : Board). listed_out 0 y (numbers code)) (with_own x) ∙ turn_on ne)

@@ -1,12 +1,11 @@
 -- Inner contracts: the turns of a message list. Each message is entered, and the index is filled once, after the last of them, if one was taken:
 -- no number looks at a word of the index.
-use Rattle.std.specs.Prelude.{true, false, List, [], ◌∷◌, ℕ, zero, suc, ◌+◌, eqb, set}
+use Rattle.std.specs.Prelude.{true, false, List, [], ◌∷◌, ℕ, suc, ◌+◌, eqb, set}
 use Rattle.model.specs.declared.Message.{Message}
 use Rattle.model.specs.Layout.{Index, Board, board_graph}
 use Rattle.model.specs.Message.{board_message, ListOutcome}
 use Rattle.message_entry.specs.Enter.{with_index, entered_valid}
 use Rattle.message_list_end.specs.Ending.{filled_index}
-use Rattle.call_message_list.specs.declared.Turns.{Turns}
 
 -- a board with its index filled, if one of the first n answers is 0
 abbrev pub finished : ℕ → Board → List ℕ → Board
@@ -27,7 +26,3 @@ unfoldable pub turns : ℕ → List Message → ℕ → Board → List ℕ → L
 turns n [] at b answers = record { code = 0; board = b; answers = answers }
 turns n (m ∷ ms) at b answers =
     turns n ms (suc at) (turned n b m at answers).board (turned n b m at answers).answers
-
--- a list's number, and how many of its messages have a turn: all of them, or none of a refused list
-abbrev pub turns_of : ℕ → ℕ → Turns
-turns_of code messages = record { code = code; turns = elim code [ zero ↦ messages | suc k ↦ 0 ] }

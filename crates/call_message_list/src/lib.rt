@@ -1,106 +1,44 @@
-// The turns of a message list: each message is entered, and the index is filled once.
+// A message list: refused, or its messages have their turns in order. Each message is entered, and the index is filled once.
 #![tactic(auto)]
 
 ghost use Rattle.std.specs.Prelude.{◌≡◌, ◌<◌};
-ghost use Rattle.model.specs.Layout.{lent};
 ghost use Rattle.model.specs.Refusal.{list_refusal};
+ghost use Rattle.model.specs.Message.{board_messages};
 ghost use Rattle.model.specs.Outcome.{listed_out};
-ghost use Rattle.message_entry.specs.Enter.{with_pairs};
-ghost use Rattle.call_message_list.specs.Once.{turns_of, turned};
+ghost use Rattle.part_board.specs.Lent.{mut_board, SameParts};
+ghost use Rattle.refusal_kind.specs.Number.{number_of};
+ghost use Rattle.call_message_list.specs.Once.{turned};
 
-use model::{Head, Message};
+use model::Message;
+use part_board::BoardMut;
+use refusal_kind::Refusal;
 
-// A list's number, and how many of its messages have a turn.
-#[derive(Clone, Copy)]
-pub struct Turns {
-    pub code: u16,
-    pub turns: usize,
-}
-
-// The number of a list of so many messages; all of them have a turn where it is 0, and else none.
-pub fn list_turns(
-    head: Head,
-    messages: usize,
-    operators: &[u16],
-    rides: &[u16],
-    stamps: &[u32],
-    revisions: &[u16],
-    index: &[u16],
-    presence_stamps: &[u32],
-    presence_revisions: &[u16],
-    presence: &[u16],
-    answers: &[u16],
-) -> Turns
-    ensures { result
-        ≡ turns_of
-        (list_refusal (lent head operators.now rides.now stamps.now revisions.now index.now
-        presence_stamps.now presence_revisions.now presence.now)
-        messages answers.now) messages }
+// One of n messages of a list: it is entered and its number stored at its place, and after the last one the index is filled.
+#[tactic(auto, using(crate::proofs::Once::turn_answers))]
+fn turn(board: &mut BoardMut<'_>, message: Message, at: usize, n: usize, answers: &mut [u16])
+    requires list { list_refusal (mut_board board.old) n answers.old ≡ 0 }
+    requires turn { at < n }
+    ensures same { SameParts board.old board.new }
+    ensures done { listed_out 0 (mut_board board.new) answers.new ≡ turned n (mut_board board.old) message at answers.old }
 {
-    let code = refusal_message::list_number(
-        head,
-        messages,
-        operators,
-        rides,
-        stamps,
-        revisions,
-        index,
-        presence_stamps,
-        presence_revisions,
-        presence,
-        answers,
-    );
-    if code == 0 {
-        return Turns {
-            code,
-            turns: messages,
-        };
-    }
-    Turns { code, turns: 0 }
+    let entered = message_entry::enter_valid(board, message);
+    answers[at] = Refusal::number_of(entered);
+    message_list_end::finish(board, at, n, answers);
 }
 
-// One of n messages of a list: it is entered and its number stored at its place, and after the last one the index is filled. The number of pairs.
-pub fn turn(
-    head: Head,
-    message: Message,
-    at: usize,
-    n: usize,
-    operators: &mut [u16],
-    rides: &mut [u16],
-    stamps: &mut [u32],
-    revisions: &mut [u16],
-    index: &mut [u16],
-    presence_stamps: &mut [u32],
-    presence_revisions: &mut [u16],
-    presence: &mut [u16],
+// Message list: refused, or all messages have their turn.
+pub fn deliver_list(
+    board: &mut BoardMut<'_>,
+    messages: &[Message],
     answers: &mut [u16],
-) -> u16
-    requires { (list_refusal (lent head operators.old rides.old stamps.old revisions.old index.old
-        presence_stamps.old presence_revisions.old presence.old) n answers.old ≡ 0) × (at < n) }
-    ensures { listed_out 0 (lent (with_pairs head result) operators.new rides.new stamps.new revisions.new index.new
-        presence_stamps.new presence_revisions.new presence.new)
-        answers.new
-        ≡ turned n (lent head operators.old rides.old stamps.old revisions.old index.old
-        presence_stamps.old presence_revisions.old presence.old) message at
-        answers.old }
+) -> Result<(), Refusal>
+    ensures same { SameParts board.old board.new }
+    ensures outcome { listed_out (number_of result) (mut_board board.new) answers.new
+        ≡ board_messages (mut_board board.old) messages.now answers.old }
 {
-    let entered = message_entry::enter_valid(
-        head,
-        message,
-        operators,
-        rides,
-        stamps,
-        revisions,
-        presence_stamps,
-        presence_revisions,
-        presence,
-    );
-    answers[at] = entered.code;
-    let next = Head {
-        operators: head.operators,
-        rides: head.rides,
-        pairs: entered.pairs,
-    };
-    message_list_end::finish(next, at, n, operators, rides, presence, index, answers);
-    entered.pairs
+    refusal_message::check_list(board.as_ref(), messages.len(), answers)?;
+    for (i, message) in messages.iter().enumerate() {
+        turn(board, *message, i, messages.len(), answers);
+    }
+    Ok(())
 }

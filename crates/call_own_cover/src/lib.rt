@@ -4,8 +4,12 @@
 ghost use Rattle.std.specs.Prelude.{◌≡◌};
 ghost use Rattle.model.specs.Calls.{board_own_cover};
 ghost use Rattle.model.specs.Outcome.{queried};
+ghost use Rattle.refusal_kind.specs.Told.{counts_of};
 
+use limits_cover_pairs::cover_present;
 use model::{Counts, Head};
+use refusal_kind::Refusal;
+use refusal_peel::check_lent;
 
 // Marks the cover (alpha, beta) with minimums, and answers the counts of operators and rides marked.
 pub fn own_cover(
@@ -17,16 +21,11 @@ pub fn own_cover(
     alpha: u16,
     beta: u16,
     marks: &mut [u16],
-) -> Counts
-    ensures { queried result marks.new
+) -> Result<Counts, Refusal>
+    ensures { queried (counts_of result) marks.new
         ≡ board_own_cover head operators.now rides.now presence.now minimums.now alpha beta
         marks.old }
 {
-    let number = refusal_peel::lent_number(head, operators, rides, presence, minimums, marks);
-    if number != 0 {
-        return limits_cover_pairs::refused(number);
-    }
-    limits_cover_pairs::cover_present(
-        head, operators, rides, presence, minimums, alpha, beta, marks,
-    )
+    let table = check_lent(head, operators, rides, presence, minimums, marks)?;
+    Ok(cover_present(table, presence, minimums, alpha, beta, marks))
 }

@@ -4,8 +4,11 @@
 ghost use Rattle.std.specs.Prelude.{◌≡◌};
 ghost use Rattle.model.specs.Calls.{board_peel};
 ghost use Rattle.model.specs.Outcome.{peel_left};
+ghost use Rattle.refusal_kind.specs.Told.{peeled_of};
 
 use model::{Head, Peeled};
+use refusal_kind::Refusal;
+use refusal_peel::check_peel;
 
 // Clears, one a step, the mark of the lowest-numbered operator that falls short, else ride, at most the allowed steps.
 pub fn peel(
@@ -18,26 +21,17 @@ pub fn peel(
     alpha: u16,
     beta: u16,
     steps: u16,
-) -> Peeled
-    ensures { peel_left result marks.new
+) -> Result<Peeled, Refusal>
+    ensures { peel_left (peeled_of result) marks.new
         ≡ board_peel head operators.now rides.now presence.now minimums.now marks.old alpha beta
         steps }
 {
-    let number = refusal_peel::peel_number(head, operators, rides, presence, minimums, marks);
-    if number != 0 {
-        return Peeled {
-            code: number,
-            settled: 0,
-            steps: 0,
-        };
-    }
+    let table = check_peel(head, operators, rides, presence, minimums, marks)?;
     let mut by_operator = [0u8; 12000];
     let mut by_ride = [0u8; 12000];
     let mut limits = [0u16; 260];
-    peel_pairs::peel_over(
-        head,
-        operators,
-        rides,
+    Ok(peel_pairs::peel_over(
+        table,
         presence,
         minimums,
         &mut by_operator,
@@ -47,5 +41,5 @@ pub fn peel(
         alpha,
         beta,
         steps,
-    )
+    ))
 }

@@ -6,9 +6,9 @@ use std::io;
 use std::io::Write;
 
 fn main(rt: HostRuntime) -> io::Result<()> {
-    let mut input = [0u8; 48011];
-    let n = frames::read(&mut rt.stdin(), &mut input, 48011)?;
+    let mut buffer = [0u8; 48011];
+    let input = frames::read(&mut rt.stdin(), &mut buffer, 48011)?;
     let mut out = [0u8; 8192];
-    let size = cover_report::cover_text(&input[0..n], &mut out);
-    rt.stdout().write_all(&out[0..size])
+    let size = cover_report::cover_text(input, &mut out);
+    rt.stdout().write_all(&out[..size])
 }

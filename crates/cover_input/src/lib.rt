@@ -1,20 +1,21 @@
 // The input of `cover`: its 16-bit little-endian words, and the checks of its sizes.
 #![tactic(auto)]
 
-ghost use Rattle.std.specs.Prelude.{◌≡◌, ◌+◌, ◌*◌, ◌≤◌, ◌<◌, length};
+ghost use Rattle.std.specs.Prelude.{◌≡◌, ◌+◌, ◌*◌, ◌≤◌, ◌<◌, IfOk, length};
 ghost use Rattle.model.specs.Layout.{over};
 ghost use Rattle.model.specs.Refusal.{first_number};
+ghost use Rattle.refusal_kind.specs.Number.{number_of};
 ghost use Rattle.cover_input.specs.Input.{word, words_from, head, size_cases};
 
 use model::Head;
-use refusal_table::head_number;
+use refusal_kind::Refusal;
 
 // The word at place i.
 pub fn word_at(input: &[u8], i: usize) -> u16
     requires { 2 * i + 1 < length input.now }
     ensures { result ≡ word input.now i }
 {
-    (input[2 * i] as u16) + 256 * (input[2 * i + 1] as u16)
+    u16::from_le_bytes([input[2 * i], input[2 * i + 1]])
 }
 
 // Copies n words, from the place `start` on.
@@ -22,15 +23,13 @@ pub fn copy_words(input: &[u8], start: usize, n: usize, to: &mut [u16])
     requires { (2 * (start + n) ≤ length input.now) × (n ≤ length to.old) }
     ensures { to.new ≡ over (words_from input.now start n) to.old }
 {
-    let mut i = 0;
-    while i < n {
+    for i in 0..n {
         to[i] = word_at(input, start + i);
-        i += 1;
     }
 }
 
 // The head, from the first three words.
-pub fn head_of(input: &[u8]) -> Head
+fn head_of(input: &[u8]) -> Head
     requires { 6 ≤ length input.now }
     ensures { result ≡ head input.now }
 {
@@ -41,27 +40,29 @@ pub fn head_of(input: &[u8]) -> Head
     }
 }
 
-// The number of the first check that refuses, of those after the least length, or 0.
-fn head_refusal(size: usize, h: Head) -> u16
+// The checks after the one of the least length.
+#[tactic(auto, using(refusal_kind::proofs::Refused::refused), unfolding(model::specs::Refusal::first_number))]
+fn check_head(size: usize, head: Head) -> Result<(), Refusal>
     requires { 6 ≤ size }
-    ensures { result ≡ first_number (size_cases size h) }
+    ensures { number_of result ≡ first_number (size_cases size head) }
 {
-    let number = head_number(h, false);
-    if number != 0 {
-        return number;
+    refusal_table::check_head(head, false)?;
+    if size != 10 + 4 * usize::from(head.pairs) {
+        return Err(Refusal::BadLength);
     }
-    if size != 10 + 4 * (h.pairs as usize) {
-        return 13;
-    }
-    0
+    Ok(())
 }
 
-// The number of the first check of the sizes that refuses, or 0.
-pub fn size_refusal(input: &[u8]) -> u16
-    ensures { result ≡ first_number (size_cases (length input.now) (head input.now)) }
+// The head, if no check of the sizes refuses.
+#[tactic(auto, unfolding(model::specs::Refusal::first_number))]
+pub fn check_size(input: &[u8]) -> Result<Head, Refusal>
+    ensures refused { number_of result ≡ first_number (size_cases (length input.now) (head input.now)) }
+    ensures read { IfOk result (λ h. (6 ≤ length input.now) × (h ≡ head input.now)) }
 {
     if input.len() < 6 {
-        return 13;
+        return Err(Refusal::BadLength);
     }
-    head_refusal(input.len(), head_of(input))
+    let head = head_of(input);
+    check_head(input.len(), head)?;
+    Ok(head)
 }

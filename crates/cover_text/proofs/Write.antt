@@ -1,12 +1,14 @@
 -- Laws of written text: stores one after the other, and texts one after the other.
-use mathlib.Core.Path.{◌≡◌, refl, sym, ap, ◌∙◌, subst}
+use mathlib.Core.Path.{◌≡◌, refl, sym, ap, ap₂, ◌∙◌, subst}
 use mathlib.Core.List.{List, [], ◌∷◌, ◌++◌}
-use Prim.Native.Nat.{ℕ, suc, ◌+◌, ◌≤◌, ◌<◌}
+use Prim.Native.Nat.{ℕ, suc, ◌+◌, ◌-◌, ◌≤◌}
 use native.Mathlib.Omega.{arith}
-use native.Mathlib.Numerals.{add-one}
 use native.Mathlib.Nat.{add-zero, zero-add}
-use lib.ListN.{length, get_or, set, take, drop, length-append}
-use lib.Seq.{sets, sets-eq, length-take-le, take-suc}
+use lib.ListN.{length, set, drop, length-append}
+use lib.Seq.{sets, sets-eq}
+use borrow.Rule.Slice.PartMut.{put_mid}
+use Rattle.std.proofs.lemmas.List.{take-append-drop}
+use Rattle.std.proofs.lemmas.Slice.{take-put_mid, drop-put_mid}
 use Rattle.model.specs.Layout.{over}
 use Rattle.cover_text.specs.Write.{Wrote}
 
@@ -17,12 +19,12 @@ sets_append l at (x ∷ a) b =
     ap (λ (k : ℕ). sets (sets (set l at x) (suc at) a) k b) (let e : at + suc (length a) ≡ suc at + length a = omega arith in e) ∙
     sets_append (set l at x) (suc at) a b
 
--- one more element of s stored
-pub sets_suc : (l : List ℕ) (at : ℕ) (s : List ℕ) (i : ℕ) → i < length s → set (sets l at (take i s)) (at + i) (get_or s i 0) ≡ sets l at (take (i + 1) s)
-sets_suc l at s i h =
-    ap (λ (k : ℕ). set (sets l at (take i s)) (at + k) (get_or s i 0)) (sym (length-take-le i s (omega arith))) ∙
-    sets_append l at (take i s) (get_or s i 0 ∷ []) ∙
-    ap (sets l at) (sym (take-suc s i 0 h) ∙ ap (λ (k : ℕ). take k s) (sym (add-one i)))
+-- a text in the place of as much
+pub put_sets : (l : List ℕ) (at : ℕ) (text : List ℕ) → at + length text ≤ length l → put_mid at (at + length text - at) l text ≡ sets l at text
+put_sets l at text h =
+    sym (take-append-drop (at + length text) (put_mid at (at + length text - at) l text)) ∙
+    ap₂ ◌++◌ (take-put_mid at (at + length text - at) l text (at + length text) refl (omega arith)) (drop-put_mid at (at + length text - at) l text (at + length text) (omega arith) (omega arith) (omega arith)) ∙
+    sym (sets-eq text l at h)
 
 -- stores from the start on are new words over the old ones
 pub sets_over : (l new : List ℕ) → length new ≤ length l → sets l 0 new ≡ over new l

@@ -4,18 +4,17 @@
 ghost use Rattle.std.specs.Prelude.{[], ◌∷◌, ◌++◌, ◌+◌, ◌≤◌, length};
 ghost use Rattle.cover_text.specs.Text.{decimal, refusal_line, first_line, node_line};
 ghost use Rattle.cover_text.specs.Write.{Wrote};
+ghost use Rattle.refusal_kind.specs.Number.{number};
+
+use refusal_kind::Refusal;
 
 fn put_bytes(out: &mut [u8], at: usize, text: &[u8]) -> usize
     requires { at + length text.now ≤ length out.old }
     ensures { Wrote out.old at text.now (length text.now) out.new result }
 {
-    let n = text.len();
-    let mut i = 0;
-    while i < n {
-        out[at + i] = text[i];
-        i += 1;
-    }
-    at + n
+    let end = at + text.len();
+    out[at..end].copy_from_slice(text);
+    end
 }
 
 // The digits before the last are those of n / 10.
@@ -23,7 +22,7 @@ fn put_number(out: &mut [u8], at: usize, n: u16) -> usize
     requires { at + 5 ≤ length out.old }
     ensures { Wrote out.old at (decimal n) 5 out.new result }
 {
-    let digit = (48 + n % 10) as u8;
+    let digit = b'0' + (n % 10) as u8;
     if n < 10 {
         out[at] = digit;
         return at + 1;
@@ -43,12 +42,12 @@ fn put_field(out: &mut [u8], at: usize, number: u16, after: u8) -> usize
     end + 1
 }
 
-pub fn put_refusal(out: &mut [u8], at: usize, number: u16) -> usize
+pub fn put_refusal(out: &mut [u8], at: usize, refusal: Refusal) -> usize
     requires { at + 14 ≤ length out.old }
-    ensures { Wrote out.old at (refusal_line number) 14 out.new result }
+    ensures { Wrote out.old at (refusal_line (number refusal)) 14 out.new result }
 {
     let named = put_bytes(out, at, b"refused ");
-    put_field(out, named, number, b'\n')
+    put_field(out, named, refusal.number(), b'\n')
 }
 
 pub fn put_first(

@@ -1,4 +1,4 @@
-pub mod Stored
+pub mod Any
 pub mod Sums
 pub mod Table
 pub mod Looked

@@ -1,47 +1,44 @@
--- Inner contracts: the words of a crowd table, and what its numbers and its bands are found by.
-use Rattle.std.specs.Prelude.{◌≡◌, Bool, ◌&&◌, ◌||◌, List, ℕ, zero, suc, ◌+◌, ◌-◌, ◌*◌, ◌<◌, ltb, leb, get_or}
-use Rattle.model.specs.declared.Bands.{Bands}
+-- Inner contracts: what the numbers of a crowd table are found by, over a list of its bands.
+use Rattle.std.specs.Prelude.{Bool, ◌&&◌, ◌||◌, List, ℕ, zero, suc, ◌+◌, ◌-◌, ltb, leb, get_or}
+use Rattle.model.specs.declared.Band.{Band}
 use Rattle.model.specs.Count.{some}
-use Rattle.model.specs.Crowd.{most_guests, band}
+use Rattle.model.specs.Crowd.{most_guests, falls_in}
 
--- four words a band, in the order of its fields
-abbrev pub first_of : List ℕ → ℕ → ℕ
-first_of words i = get_or words (i * 4) 0
+-- band i of a list, from 0
+abbrev pub at : List Band → ℕ → Band
+at bands i = get_or bands i (record { first = 0; last = 0; alpha = 0; beta = 0 })
 
-abbrev pub last_of : List ℕ → ℕ → ℕ
-last_of words i = get_or words (i * 4 + 1) 0
+abbrev pub first_of : List Band → ℕ → ℕ
+first_of bands i = (at bands i).first
 
-abbrev pub alpha_of : List ℕ → ℕ → ℕ
-alpha_of words i = get_or words (i * 4 + 2) 0
+abbrev pub last_of : List Band → ℕ → ℕ
+last_of bands i = (at bands i).last
 
-abbrev pub beta_of : List ℕ → ℕ → ℕ
-beta_of words i = get_or words (i * 4 + 3) 0
+-- the first count of a band exceeds its last, or one of them is above 20,000
+abbrev pub malformed : Band → Bool
+malformed b = ltb b.last b.first || ltb most_guests b.first || ltb most_guests b.last
 
--- the words of the first k bands of a table
-pub record WordsUpTo (k : ℕ) (t : Bands) (words : List ℕ) : Type 0 where
-  pub first : (i : ℕ) → i < k → first_of words i ≡ (band t i).first
-  pub last : (i : ℕ) → i < k → last_of words i ≡ (band t i).last
-  pub alpha : (i : ℕ) → i < k → alpha_of words i ≡ (band t i).alpha
-  pub beta : (i : ℕ) → i < k → beta_of words i ≡ (band t i).beta
+-- band i is
+abbrev pub malformed_at : List Band → ℕ → Bool
+malformed_at bands i = malformed (at bands i)
 
--- the first count of band i exceeds its last, or one of them is above 20,000
-abbrev pub malformed_at : List ℕ → ℕ → Bool
-malformed_at words i =
-    ltb (last_of words i) (first_of words i) || ltb most_guests (first_of words i) || ltb most_guests (last_of words i)
+-- two bands share a guest count
+abbrev pub shares : Band → Band → Bool
+shares b other = leb b.first other.last && leb other.first b.last
 
--- bands i and j share a guest count
-abbrev pub share : List ℕ → ℕ → ℕ → Bool
-share words i j = leb (first_of words i) (last_of words j) && leb (first_of words j) (last_of words i)
+-- bands i and j do
+abbrev pub share : List Band → ℕ → ℕ → Bool
+share bands i j = shares (at bands i) (at bands j)
 
 -- band i shares one with a band before it
-abbrev pub shares_earlier : List ℕ → ℕ → Bool
-shares_earlier words i = some i (share words i)
+abbrev pub shares_earlier : List Band → ℕ → Bool
+shares_earlier bands i = some i (share bands i)
 
 -- the guest counts of the first k bands, added up
-unfoldable pub widths : List ℕ → ℕ → ℕ
-widths words zero = 0
-widths words (suc k) = widths words k + (suc (last_of words k) - first_of words k)
+unfoldable pub widths : List Band → ℕ → ℕ
+widths bands zero = 0
+widths bands (suc k) = widths bands k + (suc (last_of bands k) - first_of bands k)
 
 -- a guest count falls in band i
-abbrev pub falls_at : List ℕ → ℕ → ℕ → Bool
-falls_at words guests i = leb (first_of words i) guests && leb guests (last_of words i)
+abbrev pub falls_at : List Band → ℕ → ℕ → Bool
+falls_at bands guests i = falls_in (at bands i) guests

@@ -1,217 +1,153 @@
-// A crowd table: the numbers 16 to 18, and the limits of the band that a guest count falls in. All of it over the table's words, four a band.
+// A crowd table: the numbers 16 to 18, and the limits of the band that a guest count falls in.
 #![tactic(auto)]
 
-ghost use Rattle.std.specs.Prelude.{◌≡◌, ◌&&◌, ◌||◌, ℕ, suc, ◌-◌, ◌≤◌, ◌<◌, ltb, leb};
-ghost use Rattle.model.specs.declared.Bands.{Bands as Table};
-ghost use Rattle.model.specs.Count.{some, lowest};
-ghost use Rattle.model.specs.Crowd.{most_guests, board_crowd_limits};
-ghost use Rattle.crowd_bands.specs.Bands.{first_of, last_of, alpha_of, beta_of, WordsUpTo, malformed_at, shares_earlier as shares_one, widths as added_up, falls_at};
+ghost use Rattle.std.specs.Prelude.{◌≡◌, ◌||◌, ltb, ℕ, suc, ◌-◌, ◌≤◌, ◌<◌, length};
+ghost use Rattle.std.specs.List.{list_any, find as first_passing};
+ghost use Rattle.model.specs.Count.{some};
+ghost use Rattle.model.specs.Crowd.{most_guests, band, falls_in as falls, board_crowd_limits};
+ghost use Rattle.crowd_bands.specs.Bands.{at, malformed, shares, first_of, last_of, malformed_at, shares_earlier, widths as added_up};
+ghost use Rattle.crowd_bands.specs.Answer.{crowd_answer};
 
-use model::{Bands, CrowdLimits};
+use model::{Band, Bands, CrowdLimits};
+use refusal_kind::Refusal;
 
-// The words of a table, to be lent: a function that indexes a table it has by value copies it first.
-pub fn words(bands: Bands) -> [u16; 32]
-    ensures { WordsUpTo 8 bands result }
-{
-    let mut all = [0u16; 32];
-    let mut i = 0;
-    while i < 8 {
-        let band = bands.bands[i];
-        all[i * 4] = band.first;
-        all[i * 4 + 1] = band.last;
-        all[i * 4 + 2] = band.alpha;
-        all[i * 4 + 3] = band.beta;
-        i += 1;
-    }
-    all
+// The limits of a band.
+#[derive(Clone, Copy)]
+pub struct Limits {
+    pub alpha: u16,
+    pub beta: u16,
 }
 
 // Whether the first count of a band exceeds its last, or one of them is above 20,000.
-fn is_malformed(first: u16, last: u16) -> bool
-    ensures { result ≡ (ltb last first || ltb most_guests first || ltb most_guests last) }
+fn is_malformed(band: &Band) -> bool
+    ensures { result ≡ malformed band.now }
 {
-    if last < first {
-        return true;
-    }
-    if 20000 < first {
-        return true;
-    }
-    20000 < last
+    band.last < band.first || 20000 < band.first || 20000 < band.last
 }
 
-// Whether one of n bands is malformed.
-fn malformed(words: &[u16; 32], n: usize) -> bool
-    requires { n ≤ 8 }
-    ensures { result ≡ some n (malformed_at words.now) }
+// Whether one of the bands is malformed.
+fn any_malformed(bands: &[Band]) -> bool
+    ensures { result ≡ list_any malformed bands.now }
 {
-    let mut i = 0;
-    while i < n {
-        if is_malformed(words[i * 4], words[i * 4 + 1]) {
-            return true;
-        }
-        i += 1;
-    }
-    false
+    bands.iter().any(|band| is_malformed(band))
 }
 
 // Whether two bands share a guest count.
-fn share(first: u16, last: u16, other_first: u16, other_last: u16) -> bool
-    ensures { result ≡ (leb first other_last && leb other_first last) }
+fn share(band: &Band, other: &Band) -> bool
+    ensures { result ≡ shares band.now other.now }
 {
-    first <= other_last && other_first <= last
+    band.first <= other.last && other.first <= band.last
 }
 
-// Whether band i shares a guest count with one before it.
-fn shares_earlier(words: &[u16; 32], i: usize) -> bool
-    requires { i < 8 }
-    ensures { result ≡ shares_one words.now i }
+// Whether a band shares a guest count with one of the others.
+fn shares_one(band: &Band, others: &[Band]) -> bool
+    ensures { result ≡ list_any (shares band.now) others.now }
 {
-    let first = words[i * 4];
-    let last = words[i * 4 + 1];
-    let mut j = 0;
-    while j < i {
-        if share(first, last, words[j * 4], words[j * 4 + 1]) {
-            return true;
-        }
-        j += 1;
-    }
-    false
+    others.iter().any(|other| share(band, other))
 }
 
-// Whether two of n bands share a guest count.
-fn overlap(words: &[u16; 32], n: usize) -> bool
-    requires { n ≤ 8 }
-    ensures { result ≡ some n (shares_one words.now) }
+// Whether two of the bands share a guest count.
+fn overlap(bands: &[Band]) -> bool
+    ensures { result ≡ some (length bands.now) (shares_earlier bands.now) }
 {
-    let mut i = 0;
-    while i < n {
-        if shares_earlier(words, i) {
+    for (i, band) in bands.iter().enumerate() {
+        if shares_one(band, &bands[..i]) {
             return true;
         }
-        i += 1;
     }
     false
 }
 
 // The guest counts of a band.
-fn width(first: u16, last: u16) -> u32
-    requires { first ≤ last }
-    ensures { (result ≡ suc last - first) × (result ≤ 65536) }
+fn width(band: &Band) -> u32
+    requires { band.now.first ≤ band.now.last }
+    ensures { (result ≡ suc band.now.last - band.now.first) × (result ≤ 65536) }
 {
-    (last - first) as u32 + 1
+    u32::from(band.last - band.first) + 1
 }
 
-// The guest counts of n bands, added up.
-fn widths(words: &[u16; 32], n: usize) -> u32
-    requires { (n ≤ 8) × ((i : ℕ) → i < n → first_of words.now i ≤ last_of words.now i) }
-    ensures { result ≡ added_up words.now n }
+// The guest counts of the bands, added up.
+fn widths(bands: &[Band]) -> u32
+    requires { (length bands.now ≤ 8) × ((i : ℕ) → i < length bands.now → first_of bands.now i ≤ last_of bands.now i) }
+    ensures { result ≡ added_up bands.now (length bands.now) }
 {
     let mut sum: u32 = 0;
-    let mut i = 0;
-    while i < n {
-        sum += width(words[i * 4], words[i * 4 + 1]);
-        i += 1;
+    for band in bands {
+        sum += width(band);
     }
     sum
 }
 
 // Whether a guest count falls in a band.
-fn falls_in(first: u16, last: u16, guests: u16) -> bool
-    ensures { result ≡ (leb first guests && leb guests last) }
+fn falls_in(band: &Band, guests: u16) -> bool
+    ensures { result ≡ falls band.now guests }
 {
-    first <= guests && guests <= last
+    band.first <= guests && guests <= band.last
 }
 
-// The first of n bands that a guest count falls in; n where there is none.
-fn place_of(words: &[u16; 32], n: usize, guests: u16) -> usize
-    requires { n ≤ 8 }
-    ensures { result ≡ lowest n (falls_at words.now guests) }
+// The first of the bands that a guest count falls in.
+fn band_for(bands: &[Band], guests: u16) -> Option<Band>
+    ensures { result ≡ first_passing (λ b. falls b guests) bands.now }
 {
-    let mut i = 0;
-    while i < n {
-        if falls_in(words[i * 4], words[i * 4 + 1], guests) {
-            return i;
-        }
-        i += 1;
-    }
-    n
-}
-
-// What a look-up finds. The number stands last, so that the limits, which lie side by side in the table, are stored and read as one.
-#[derive(Clone, Copy)]
-pub struct Found {
-    pub alpha: u16,
-    pub beta: u16,
-    pub number: u16,
-}
-
-// Nothing: the number of a table that is refused.
-fn refused(number: u16) -> Found
-    ensures { result ≡ record { alpha = 0; beta = 0; number = number } }
-{
-    Found {
-        alpha: 0,
-        beta: 0,
-        number,
-    }
-}
-
-// The limits of band i.
-fn limits_at(words: &[u16; 32], i: usize) -> Found
-    requires { i < 8 }
-    ensures { result ≡ record { alpha = alpha_of words.now i; beta = beta_of words.now i; number = 0 } }
-{
-    Found {
-        alpha: words[i * 4 + 2],
-        beta: words[i * 4 + 3],
-        number: 0,
-    }
+    bands.iter().copied().find(|band| falls_in(band, guests))
 }
 
 // Whether a count of bands is outside 1 to 8, or a guest count above 20,000.
 fn out_of_range(count: u16, guests: u16) -> bool
     ensures { result ≡ (ltb count 1 || ltb 8 count || ltb most_guests guests) }
 {
-    if count < 1 {
-        return true;
-    }
-    if 8 < count {
-        return true;
-    }
-    20000 < guests
+    count < 1 || 8 < count || 20000 < guests
 }
 
-// The limits of the band that a guest count falls in. Bands that share no guest count have a gap where they have fewer than 20,001 together.
-pub fn find(count: u16, words: &[u16; 32], guests: u16) -> Found
-    requires { (t : Table) × (t.count ≡ count) × WordsUpTo 8 t words.now }
-    ensures { (t : Table) → t.count ≡ count → WordsUpTo 8 t words.now →
-        record { code = result.number; alpha = result.alpha; beta = result.beta } ≡ board_crowd_limits t guests }
+// The bands that a table lists.
+fn listed(bands: &Bands) -> &[Band]
+    requires { bands.now.count ≤ 8 }
+    ensures long { length result.now ≡ bands.now.count }
+    ensures same { (i : ℕ) → i < bands.now.count → at result.now i ≡ band bands.now i }
 {
-    if out_of_range(count, guests) {
-        return refused(16);
+    &bands.bands[..usize::from(bands.count)]
+}
+
+// The limits of the band that a guest count falls in. Bands that share no guest count have a gap where they have fewer than 20,001 together. It is
+// lent the table and stays a function of its own: put into a caller that has the table by value, it would copy it first.
+#[inline(never)]
+pub fn find(bands: &Bands, guests: u16) -> Result<Limits, Refusal>
+    ensures { crowd_answer result ≡ board_crowd_limits bands.now guests }
+{
+    if out_of_range(bands.count, guests) {
+        return Err(Refusal::BadBands);
     }
-    let n = count as usize;
-    if malformed(words, n) {
-        return refused(16);
+    let all = listed(bands);
+    if any_malformed(all) {
+        return Err(Refusal::BadBands);
     }
-    if overlap(words, n) {
-        return refused(17);
+    if overlap(all) {
+        return Err(Refusal::BandsOverlap);
     }
-    if widths(words, n) < 20001 {
-        return refused(18);
+    if widths(all) < 20001 {
+        return Err(Refusal::BandsLeaveGap);
     }
-    limits_at(words, place_of(words, n, guests))
+    let band = band_for(all, guests).unwrap();
+    Ok(Limits {
+        alpha: band.alpha,
+        beta: band.beta,
+    })
 }
 
 // The limits of the band that a guest count falls in.
 pub fn crowd_limits(bands: Bands, guests: u16) -> CrowdLimits
     ensures { result ≡ board_crowd_limits bands guests }
 {
-    let all = words(bands);
-    let found = find(bands.count, &all, guests);
-    CrowdLimits {
-        code: found.number,
-        alpha: found.alpha,
-        beta: found.beta,
+    match find(&bands, guests) {
+        Ok(limits) => CrowdLimits {
+            code: 0,
+            alpha: limits.alpha,
+            beta: limits.beta,
+        },
+        Err(refusal) => CrowdLimits {
+            code: refusal.number(),
+            alpha: 0,
+            beta: 0,
+        },
     }
 }

@@ -1,8 +1,8 @@
-// The frames that the replay programs read, as reference/README.md lays them out: the words of a frame by their place, its head and messages, and
+// The frames that the replay programs read, as reference/README.md lays them out: the words of a frame, one after another, its head and messages, and
 // a line of text for each call.
 #![tactic(auto)]
 
-ghost use Rattle.std.specs.Prelude.{◌≤◌, ◌<◌, ◌++◌, ◌∷◌, [], length, IfOk, OnOk};
+ghost use Rattle.std.specs.Prelude.{◌≤◌, ◌++◌, ◌∷◌, [], length, IfOk, OnOk};
 ghost use Rattle.std.specs.Fmt.{decimal};
 ghost use Rattle.std.specs.Io.KnownBytes.{Appends};
 
@@ -10,11 +10,39 @@ use model::{Head, Message};
 use std::io;
 use std::io::{Read, Write};
 
-// The next count of a stream, and whether the stream had one more.
-#[derive(Clone, Copy)]
-pub struct Counted {
-    pub more: bool,
-    pub count: u16,
+// The calls of a stream, by the first word of their frames.
+#[derive(Clone, Copy, Debug, PartialEq, Eq)]
+pub enum CallKind {
+    Build = 1,
+    Query = 2,
+    Peel = 3,
+    Message = 4,
+    List = 5,
+    LookUp = 6,
+    CrowdCover = 7,
+    OwnCover = 8,
+}
+
+// A word that names no call.
+#[derive(Clone, Copy, Debug, PartialEq, Eq)]
+pub struct UnknownCall(pub u16);
+
+impl TryFrom<u16> for CallKind {
+    type Error = UnknownCall;
+
+    fn try_from(number: u16) -> Result<CallKind, UnknownCall> {
+        match number {
+            1 => Ok(CallKind::Build),
+            2 => Ok(CallKind::Query),
+            3 => Ok(CallKind::Peel),
+            4 => Ok(CallKind::Message),
+            5 => Ok(CallKind::List),
+            6 => Ok(CallKind::LookUp),
+            7 => Ok(CallKind::CrowdCover),
+            8 => Ok(CallKind::OwnCover),
+            _ => Err(UnknownCall(number)),
+        }
+    }
 }
 
 // Reads until the buffer is full or the stream ends, and answers how many bytes it put to the start of the buffer.
@@ -32,100 +60,94 @@ fn fill<R: Read>(input: &mut R, buffer: &mut [u8]) -> io::Result<usize>
     Ok(done)
 }
 
-// Reads the next count of the stream.
-pub fn count<R: Read>(input: &mut R) -> io::Result<Counted> {
+// Reads the next count of the stream, if it has one more.
+pub fn count<R: Read>(input: &mut R) -> io::Result<Option<u16>> {
     let mut bytes = [0u8; 2];
     let read = fill(input, &mut bytes)?;
-    Ok(Counted {
-        more: read == 2,
-        count: word(&bytes, 0),
+    Ok(if read == 2 {
+        Some(u16::from_le_bytes(bytes))
+    } else {
+        None
     })
 }
 
-// Reads so many bytes to the start of the buffer, of those that there are, and answers how many.
-pub fn read<R: Read>(input: &mut R, buffer: &mut [u8], bytes: usize) -> io::Result<usize>
-    ensures { IfOk result (λ n. n ≤ length buffer.old) }
-{
-    let room = least(bytes, buffer.len());
-    fill(input, &mut buffer[0..room])
+// Reads so many bytes into the buffer, of those that there are.
+pub fn read<'a, R: Read>(
+    input: &mut R,
+    buffer: &'a mut [u8],
+    bytes: usize,
+) -> io::Result<&'a [u8]> {
+    let room = bytes.min(buffer.len());
+    let n = fill(input, &mut buffer[..room])?;
+    Ok(&buffer[..n])
 }
 
-// Reads the next frame to the start of the buffer, and answers how many bytes it has: 0 at the end of the stream.
-pub fn next<R: Read>(input: &mut R, buffer: &mut [u8]) -> io::Result<usize>
-    ensures { IfOk result (λ n. n ≤ length buffer.old) }
-{
-    let words = count(input)?;
-    read(input, buffer, 2 * (words.count as usize))
+// Reads the next frame into the buffer, if there is one. A count of 0 ends the stream.
+pub fn next<'a, R: Read>(input: &mut R, buffer: &'a mut [u8]) -> io::Result<Option<&'a [u8]>> {
+    let words = count(input)?.unwrap_or(0);
+    let frame = read(input, buffer, 2 * usize::from(words))?;
+    Ok(if frame.is_empty() { None } else { Some(frame) })
 }
 
-// The smaller of the two.
-pub fn least(a: usize, b: usize) -> usize
-    ensures { result ≤ b }
-{
-    if a < b { a } else { b }
+// The words of a frame that are left to read. A word past the end is 0.
+#[derive(Clone, Copy)]
+pub struct Words<'a> {
+    rest: &'a [u8],
 }
 
-// A byte as a number.
-fn wide(b: u8) -> u16
-    ensures { result < 256 }
-{
-    b as u16
-}
-
-// The word at a place of a frame, or 0 past its end.
-pub fn word(frame: &[u8], at: usize) -> u16 {
-    if at < frame.len() / 2 {
-        wide(frame[2 * at]) + 256 * wide(frame[2 * at + 1])
-    } else {
-        0
+impl<'a> Words<'a> {
+    pub fn new(frame: &'a [u8]) -> Words<'a> {
+        Words { rest: frame }
     }
-}
 
-// The 32-bit number at a place of a frame.
-pub fn long(frame: &[u8], at: usize) -> u32 {
-    (word(frame, at) as u32) + 65536 * (word(frame, past(at, 1)) as u32)
-}
-
-// The place so many words later. No frame has as many words as the bound.
-pub fn past(at: usize, words: usize) -> usize {
-    if 1000000 < at {
-        return at;
+    pub fn word(&mut self) -> u16 {
+        let Some((bytes, rest)) = self.rest.split_first_chunk::<2>() else {
+            return 0;
+        };
+        self.rest = rest;
+        u16::from_le_bytes(*bytes)
     }
-    if 1000000 < words {
-        return at;
+
+    // A number of 32 bits: two words, the low one first.
+    pub fn long(&mut self) -> u32 {
+        let low = u32::from(self.word());
+        let high = u32::from(self.word());
+        high << 16 | low
     }
-    at + words
-}
 
-// The head of a frame, with so many pairs by now.
-pub fn head_now(frame: &[u8], pairs: u16) -> Head {
-    Head {
-        operators: word(frame, 1),
-        rides: word(frame, 2),
-        pairs,
+    // The words behind the next so many.
+    pub fn behind(self, words: usize) -> Words<'a> {
+        let n = words.min(self.rest.len() / 2);
+        Words {
+            rest: &self.rest[2 * n..],
+        }
     }
-}
 
-pub fn head(frame: &[u8]) -> Head {
-    head_now(frame, word(frame, 3))
-}
-
-// The message at a place of a frame.
-pub fn message_at(frame: &[u8], at: usize) -> Message {
-    Message {
-        kind: word(frame, at),
-        operator: word(frame, past(at, 1)),
-        ride: word(frame, past(at, 2)),
-        revision: word(frame, past(at, 3)),
-        stamp: long(frame, past(at, 4)),
+    pub fn head(&mut self) -> Head {
+        let operators = self.word();
+        let rides = self.word();
+        let pairs = self.word();
+        Head {
+            operators,
+            rides,
+            pairs,
+        }
     }
-}
 
-// The number where the condition holds, or else 0.
-pub fn only(condition: bool, number: usize) -> usize
-    ensures { result ≤ number }
-{
-    if condition { number } else { 0 }
+    pub fn message(&mut self) -> Message {
+        let kind = self.word();
+        let operator = self.word();
+        let ride = self.word();
+        let revision = self.word();
+        let stamp = self.long();
+        Message {
+            kind,
+            operator,
+            ride,
+            revision,
+            stamp,
+        }
+    }
 }
 
 // Writes one of a call's numbers, and a space.

@@ -2,7 +2,7 @@
 use mathlib.Core.Path.{◌≡◌, refl, sym, ap, ap₂, ◌∙◌, subst}
 use mathlib.Core.Bool.{Bool, false, ◌&&◌}
 use mathlib.Core.List.{List}
-use Prim.Native.Nat.{ℕ, ◌+◌, ◌-◌, ◌*◌, ◌≤◌, ◌<◌}
+use Prim.Native.Nat.{ℕ, ◌+◌, ◌*◌, ◌≤◌, ◌<◌}
 use native.Mathlib.Omega.{arith}
 use lib.Dec.{T, eqb}
 use lib.ListN.{get_or, set, replicate, length-set}
@@ -10,7 +10,7 @@ use Rattle.model.specs.declared.Head.{Head}
 use Rattle.model.specs.Count.{bit}
 use Rattle.model.specs.Graph.{Graph}
 use Rattle.model.specs.Layout.{listed}
-use Rattle.model.proofs.Count.{bit_test, bit_le, test_ext, count_ext, count_le, count_zero}
+use Rattle.model.proofs.Count.{bit_test, test_ext, count_ext, count_le, count_zero}
 use Rattle.model.proofs.Pairs.{listed_place, place_listed}
 use Rattle.model.proofs.Store.{getD_zeros}
 use Rattle.pairs.specs.Accepted.{AcceptedPairs}
@@ -89,10 +89,10 @@ module _ (h : Head) (operators rides : List ℕ) (accepted : AcceptedPairs h ope
         omega (arith, (held h operators rides accepted).ascending w.0 k w.1 l, ap₂ (λ (x y : ℕ). x * h.rides + y) w.2 w.3)
 
     -- neither sum is above 255
-    pub sums_fit : (one : ℕ) → one ≡ bit (test u v) → (get_or d u 0 + one ≤ 255) × (get_or d' v 0 + one ≤ 255)
+    pub sums_fit : (one : ℕ) → one ≤ 1 → (get_or d u 0 + one ≤ 255) × (get_or d' v 0 + one ≤ 255)
     sums_fit one e = (
-      omega (arith, e, bit_le (test u v), upto.degrees.operator_degrees u in_range.0, degree_row (g k) u in_range.0, count_le (λ v. (g k).cleared u v) h.rides, accepted.few_rides),
-      omega (arith, e, bit_le (test u v), upto.degrees.ride_degrees v in_range.1, degree_column (g k) v, count_le (λ u. (g k).cleared u v) h.operators, accepted.few_operators),
+      omega (arith, upto.degrees.operator_degrees u in_range.0, degree_row (g k) u in_range.0, count_le (λ v. (g k).cleared u v) h.rides, accepted.few_rides),
+      omega (arith, upto.degrees.ride_degrees v in_range.1, degree_column (g k) v, count_le (λ u. (g k).cleared u v) h.operators, accepted.few_operators),
     )
 
     pub read_next : (one : ℕ) → one ≡ bit (test u v) → ReadUpTo (k + 1) h operators rides on (set t (u * 60 + v) one) (set t' (v * 200 + u) one) (set d u (get_or d u 0 + one)) (set d' v (get_or d' v 0 + one))

@@ -10,13 +10,7 @@ ghost use Rattle.graph_tables.specs.Table.{ZeroTables};
 ghost use Rattle.graph_degrees.specs.Degrees.{Bytes, BothDegrees, ReadUpTo, Joined, AllDegrees};
 
 use model::Head;
-
-// 1 where a word is 1.
-fn is_one(word: u16) -> u8
-    ensures { result ≡ bit (eqb word 1) }
-{
-    if word == 1 { 1 } else { 0 }
-}
+use pairs::PairTable;
 
 // 1 where two bits are both 1.
 fn both(a: u8, b: u8) -> u8
@@ -26,19 +20,26 @@ fn both(a: u8, b: u8) -> u8
     a & b
 }
 
+// A byte for each of so many nodes: 1 where the test holds.
+fn bytes_of<F: Fn(usize) -> bool>(nodes: usize, is_here: F) -> [u8; 260]
+    requires few { nodes ≤ 260 }
+    requires tested { (x : ℕ) → x < nodes → F.pre is_here x }
+    ensures { (x : ℕ) → x < nodes → (b : Bool) × F.post is_here x b × (get_or result x 0 ≡ bit b) }
+{
+    let mut here = [0u8; 260];
+    for x in 0..nodes {
+        here[x] = u8::from(is_here(x));
+    }
+    here
+}
+
 // Who is here for the index: whoever is present.
 pub fn present(head: Head, presence: &[u16]) -> [u8; 260]
     requires { (mark_places head ≤ length presence.now) × (mark_places head ≤ 260) }
     ensures { Bytes head (is_present presence.now) result }
 {
     let nodes = head.operators as usize + head.rides as usize;
-    let mut here = [0u8; 260];
-    let mut x = 0;
-    while x < nodes {
-        here[x] = is_one(presence[x]);
-        x += 1;
-    }
-    here
+    bytes_of(nodes, |x| presence[x] == 1)
 }
 
 // Who is here for a peel: whoever is present and marked.
@@ -47,13 +48,7 @@ pub fn present_and_marked(head: Head, presence: &[u16], marks: &[u16]) -> [u8; 2
     ensures { Bytes head (λ x. is_present presence.now x && marked marks.now x) result }
 {
     let nodes = head.operators as usize + head.rides as usize;
-    let mut here = [0u8; 260];
-    let mut x = 0;
-    while x < nodes {
-        here[x] = both(is_one(presence[x]), is_one(marks[x]));
-        x += 1;
-    }
-    here
+    bytes_of(nodes, |x| (presence[x] == 1) & (marks[x] == 1))
 }
 
 // The degree of operator u so far. Pairs are in order of operators: where the pair before was u's too, it is at hand, and the byte just stored isn't waited for.
@@ -77,38 +72,34 @@ pub struct Degrees {
 
 // Reads a pair table once: tables of zeros are filled with the pairs whose nodes are both here, and the degrees in these pairs counted.
 pub fn tabulate(
-    head: Head,
-    operators: &[u16],
-    rides: &[u16],
+    table: PairTable<'_>,
     here: &[u8],
     by_operator: &mut [u8],
     by_ride: &mut [u8],
 ) -> Degrees
-    requires { AcceptedPairs head operators.now rides.now × ((on : ℕ → Bool) × Bytes head on here.now) × ZeroTables by_operator.old by_ride.old }
-    ensures { (on : ℕ → Bool) → Bytes head on here.now →
-        ReadUpTo head.pairs head operators.now rides.now on
+    requires { ((on : ℕ → Bool) × Bytes table.head on here.now) × ZeroTables by_operator.old by_ride.old }
+    ensures { (on : ℕ → Bool) → Bytes table.entry.head on here.now →
+        ReadUpTo table.entry.head.pairs table.entry.head table.entry.operators.now table.entry.rides.now on
         by_operator.new by_ride.new result.operators result.rides }
 {
-    let n = head.operators as usize;
-    let nodes = n + head.rides as usize;
+    let n = table.head.operators as usize;
+    let nodes = n + table.head.rides as usize;
     let of_rides = &here[n..nodes];
     let mut operator_degrees = [0u8; 200];
     let mut ride_degrees = [0u8; 60];
     let mut last = 0;
     let mut degree: u8 = 0;
-    let mut k = 0;
     // After k places, tables and degrees are of the first k pairs: no pair stands twice, so that each adds its own bit.
-    while k < head.pairs as usize {
-        let u = operators[k] as usize;
-        let v = rides[k] as usize;
+    for k in 0..table.head.pairs as usize {
+        let u = table.operators[k] as usize;
+        let v = table.rides[k] as usize;
         let one = both(here[u], of_rides[v]);
         by_operator[u * 60 + v] = one;
         by_ride[v * 200 + u] = one;
-        ride_degrees[v] = ride_degrees[v] + one;
+        ride_degrees[v] += one;
         degree = so_far(&operator_degrees, u, last, degree) + one;
         operator_degrees[u] = degree;
         last = u;
-        k += 1;
     }
     Degrees {
         operators: operator_degrees,
@@ -122,10 +113,8 @@ fn join(of_operators: &[u8], of_rides: &[u8], all: &mut [u8])
     ensures { Joined of_operators.now of_rides.now all.new }
 {
     let n = of_operators.len();
-    let m = of_rides.len();
-    let end = n + m;
-    arrays::copy_bytes(of_operators, all, n);
-    arrays::copy_bytes(of_rides, &mut all[n..end], m);
+    all[..n].copy_from_slice(of_operators);
+    all[n..n + of_rides.len()].copy_from_slice(of_rides);
 }
 
 // The degrees of all nodes in one array, as marks lie.

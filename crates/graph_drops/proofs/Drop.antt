@@ -8,7 +8,6 @@ use native.Mathlib.Nat.{zero-add}
 use native.Mathlib.Omega.{arith}
 use native.Mathlib.Decide.{dec_lt, ℕ_discrete}
 use lib.Dec.{T}
-use borrow.Author.Count.{below_more}
 use lib.ListN.{length, get_or, set, take, drop, length-set}
 use lib.Seq.{get_or-set_same, get_or-set_other}
 use Rattle.model.specs.Graph.{Graph, nodes, degree, marked}
@@ -18,31 +17,6 @@ use Rattle.graph_tables.specs.Table.{Tables}
 use Rattle.graph_tables.proofs.Held.{row_length, row_at}
 use Rattle.limits.specs.Limits.{byte_limit}
 use Rattle.graph_drops.specs.Drop.{Remaining, Subtracted, NodeDropped}
-
--- the first i places of a row are subtracted
-pub record Subtracting (old : List ℕ) (from : ℕ) (row : List ℕ) (i : ℕ) (new : List ℕ) : Type 0 where
-  pub long : length new ≡ length old
-  pub below : (y : ℕ) → y < from → get_or new y 0 ≡ get_or old y 0
-  pub done : (k : ℕ) → k < i → get_or new (from + k) 0 ≡ get_or old (from + k) 0 - get_or row k 0
-  pub ahead : (y : ℕ) → from + i ≤ y → get_or new y 0 ≡ get_or old y 0
-
-pub subtracting_start : (old : List ℕ) (from : ℕ) (row : List ℕ) → Subtracting old from row 0 old
-subtracting_start old from row = record { long = refl; below = λ y h. refl; done = λ k h. absurd (let z : ⊥ = omega arith in z); ahead = λ y h. refl }
-
-pub subtracting_end : (old : List ℕ) (from : ℕ) (row : List ℕ) (i : ℕ) (new : List ℕ) → Subtracting old from row i new → i ≡ length row → Subtracted old from row new
-subtracting_end old from row i new s e =
-    record { long = s.long; below = s.below; within = λ k h. s.done k (omega arith); above = λ y h. s.ahead y (omega arith) }
-
-pub subtracting_more : (old : List ℕ) (from : ℕ) (row : List ℕ) (i : ℕ) (new : List ℕ) (v : ℕ) → Subtracting old from row i new → from + i < length new → v ≡ get_or new (from + i) 0 - get_or row i 0 → Subtracting old from row (i + 1) (set new (from + i) v)
-subtracting_more old from row i new v s h e =
-    record {
-      long = length-set new (from + i) v ∙ s.long;
-      below = λ y l. get_or-set_other new (from + i) y v 0 (omega arith) ∙ s.below y l;
-      done = below_more _ i
-          (λ k l. get_or-set_other new (from + i) (from + k) v 0 (omega arith) ∙ s.done k l)
-          (get_or-set_same new (from + i) v 0 h ∙ e ∙ ap (λ (d : ℕ). d - get_or row i 0) (s.ahead (from + i) (omega arith)));
-      ahead = λ y l. get_or-set_other new (from + i) y v 0 (omega arith) ∙ s.ahead y (omega arith);
-    }
 
 module _ (g : Graph) (n c : ℕ) (rows columns marks degrees : List ℕ) (t : Tables g rows columns) (o : Remaining g n c marks degrees) (x : ℕ) (m : T (marked marks x)) where
   abbrev rest : ℕ → ℕ

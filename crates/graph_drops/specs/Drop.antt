@@ -1,12 +1,19 @@
 -- Inner contracts: a peel on its way, by two bytes for each node, its remaining degree and its limit, and a node dropped.
-use Rattle.std.specs.Prelude.{◌≡◌, Bool, true, false, ◌&&◌, List, ℕ, ◌+◌, ◌-◌, ◌≤◌, ◌<◌, ltb, leb, length, get_or, set}
+use Rattle.std.specs.Prelude.{◌≡◌, Bool, true, false, ◌&&◌, List, ℕ, ◌+◌, ◌-◌, ◌≤◌, ◌<◌, ltb, leb, length, get_or, set, Option, MatchOption}
 use Rattle.model.specs.Count.{some}
 use Rattle.model.specs.Graph.{Graph, nodes, degree, marked}
+use Rattle.graph_tables.specs.declared.ClearanceTables.{ClearanceTables}
+use Rattle.graph_tables.specs.Table.{Tables}
 use Rattle.limits.specs.Limits.{byte_limit}
+use Rattle.graph_drops.specs.declared.NodeBytes.{NodeBytes}
 
 -- the degree of node x is below its limit
 abbrev pub lacks : List ℕ → List ℕ → ℕ → Bool
 lacks degrees limits x = ltb (get_or degrees x 0) (get_or limits x 0)
+
+-- r is the lowest of the first k that pass a test, which is low, or none where that is k
+abbrev pub IsLowest : Option ℕ → ℕ → ℕ → Type 0
+IsLowest r k low = MatchOption r (low ≡ k) (λ x. (x < k) × (x ≡ low))
 
 -- the sizes of g, and the remaining degrees of all operators and rides, which travel with the marks
 pub record Remaining (g : Graph) (operators rides : ℕ) (marks degrees : List ℕ) : Type 0 where
@@ -21,6 +28,11 @@ pub record Held (g : Graph) (limit : ℕ → ℕ) (operators rides : ℕ) (degre
   pub room : nodes g ≤ length marks
   pub limits_long : length limits ≡ 260
   pub limits_are : (x : ℕ) → x < nodes g → get_or limits x 0 ≡ byte_limit limit marks x
+
+-- such bytes beside tables of g
+pub record HeldOver (g : Graph) (limit : ℕ → ℕ) (tables : ClearanceTables) (bytes : NodeBytes) (marks : List ℕ) : Type 0 where
+  pub tables_are : Tables g tables.by_operator.now tables.by_ride.now
+  pub held : Held g limit tables.operators tables.rides bytes.degrees bytes.limits marks
 
 -- a row is subtracted from the degrees that start at from
 pub record Subtracted (old : List ℕ) (from : ℕ) (row new : List ℕ) : Type 0 where

@@ -5,9 +5,16 @@ ghost use Rattle.std.specs.Prelude.{◌≡◌, List, ℕ, ◌+◌, ◌<◌, ◌�
 ghost use Rattle.model.specs.Count.{count, lowest};
 ghost use Rattle.model.specs.Graph.{Graph, marked};
 ghost use Rattle.graph_tables.specs.Table.{Tables};
-ghost use Rattle.graph_drops.specs.Drop.{lacks, looked_from, Remaining, Held, Subtracted, NodeDropped};
+ghost use Rattle.graph_drops.specs.Drop.{lacks, IsLowest, looked_from, Remaining, HeldOver, Subtracted, NodeDropped};
 
-use arrays::below;
+use graph_tables::ClearanceTables;
+
+// Two bytes for each node, operators first and then rides: its remaining degree, and its limit.
+#[derive(Drop)]
+pub struct NodeBytes {
+    pub degrees: [u8; 260],
+    pub limits: [u8; 260],
+}
 
 // How many of the first n nodes fall short, with no branch.
 fn count_short(degrees: &[u8; 260], limits: &[u8; 260], n: usize) -> u8
@@ -15,27 +22,28 @@ fn count_short(degrees: &[u8; 260], limits: &[u8; 260], n: usize) -> u8
     ensures { result ≡ count n (lacks degrees.now limits.now) }
 {
     let mut short: u8 = 0;
-    let mut x = 0;
-    while x < n {
-        short = short + below(degrees[x], limits[x]);
-        x += 1;
+    for x in 0..n {
+        short += u8::from(degrees[x] < limits[x]);
     }
     short
 }
 
-// The lowest node that falls short, where none below from does; the number of nodes where nobody does.
-pub fn lowest_short(degrees: &[u8; 260], limits: &[u8; 260], from: usize, nodes: usize) -> usize
+// The lowest node that falls short, if one does, where none below from does.
+pub fn lowest_short(
+    degrees: &[u8; 260],
+    limits: &[u8; 260],
+    from: usize,
+    nodes: usize,
+) -> Option<usize>
     requires { (from ≤ nodes) × (nodes ≤ 260) × ((x : ℕ) → x < from → T (lacks degrees.now limits.now x) → ⊥) }
-    ensures { result ≡ lowest nodes (lacks degrees.now limits.now) }
+    ensures { IsLowest result nodes (lowest nodes (lacks degrees.now limits.now)) }
 {
-    let mut x = from;
-    while x < nodes {
+    for x in from..nodes {
         if degrees[x] < limits[x] {
-            return x;
+            return Some(x);
         }
-        x += 1;
     }
-    x
+    None
 }
 
 // Subtracts a row from the degrees that start at from.
@@ -44,57 +52,40 @@ fn subtract_at(degrees: &mut [u8; 260], from: usize, row: &[u8])
         ((i : ℕ) → i < length row.now → get_or row.now i 0 ≤ get_or degrees.old (from + i) 0) }
     ensures { Subtracted degrees.old from row.now degrees.new }
 {
-    let n = row.len();
-    let mut i = 0;
-    while i < n {
-        degrees[from + i] = degrees[from + i] - row[i];
-        i += 1;
-    }
+    graph_tables::subtract(&mut degrees[from..from + row.len()], row);
 }
 
 // Subtracts the row of the marked node x from the degrees of the other side.
-pub fn subtract_row(
-    operators: usize,
-    rides: usize,
-    by_operator: &[u8],
-    by_ride: &[u8],
-    degrees: &mut [u8; 260],
-    x: usize,
-)
-    requires { ((g : Graph) × (marks : List ℕ) × Tables g by_operator.now by_ride.now × Remaining g operators rides marks degrees.old × T (marked marks x)) ×
-        (x < operators + rides) }
-    ensures { (g : Graph) (marks : List ℕ) → Tables g by_operator.now by_ride.now →
-        Remaining g operators rides marks degrees.old → T (marked marks x) →
-        Remaining g operators rides (set marks x 0) degrees.new }
+pub fn subtract_row(tables: ClearanceTables<'_>, degrees: &mut [u8; 260], x: usize)
+    requires { ((g : Graph) × (marks : List ℕ) × Tables g tables.by_operator.now tables.by_ride.now ×
+        Remaining g tables.operators tables.rides marks degrees.old × T (marked marks x)) ×
+        (x < tables.operators + tables.rides) }
+    ensures { (g : Graph) (marks : List ℕ) → Tables g tables.entry.by_operator.now tables.entry.by_ride.now →
+        Remaining g tables.entry.operators tables.entry.rides marks degrees.old → T (marked marks x) →
+        Remaining g tables.entry.operators tables.entry.rides (set marks x 0) degrees.new }
 {
+    let operators = tables.operators;
     if x < operators {
         let at = x * 60;
-        subtract_at(degrees, operators, &by_operator[at..at + rides]);
+        let row = &tables.by_operator[at..at + tables.rides];
+        subtract_at(degrees, operators, row);
         return;
     }
     let at = (x - operators) * 200;
-    subtract_at(degrees, 0, &by_ride[at..at + operators]);
+    let row = &tables.by_ride[at..at + operators];
+    subtract_at(degrees, 0, row);
 }
 
 // Drops the marked node x: each of its neighbours has one degree less, and its limit and its mark are cleared.
-pub fn drop_node(
-    operators: usize,
-    rides: usize,
-    by_operator: &[u8],
-    by_ride: &[u8],
-    degrees: &mut [u8; 260],
-    limits: &mut [u8; 260],
-    marks: &mut [u16],
-    x: usize,
-)
-    requires { ((g : Graph) × (limit : ℕ → ℕ) × Tables g by_operator.now by_ride.now × Held g limit operators rides degrees.old limits.old marks.old) ×
-        (x < operators + rides) × T (marked marks.old x) }
-    ensures { (g : Graph) (limit : ℕ → ℕ) → Tables g by_operator.now by_ride.now →
-        Held g limit operators rides degrees.old limits.old marks.old →
-        NodeDropped g limit operators rides marks.old x degrees.new limits.new marks.new }
+pub fn drop_node(tables: ClearanceTables<'_>, bytes: &mut NodeBytes, marks: &mut [u16], x: usize)
+    requires { ((g : Graph) × (limit : ℕ → ℕ) × HeldOver g limit tables bytes.old marks.old) ×
+        (x < tables.operators + tables.rides) × T (marked marks.old x) }
+    ensures { (g : Graph) (limit : ℕ → ℕ) → HeldOver g limit tables.entry bytes.old marks.old →
+        NodeDropped g limit tables.entry.operators tables.entry.rides marks.old x
+        bytes.new.degrees bytes.new.limits marks.new }
 {
-    subtract_row(operators, rides, by_operator, by_ride, degrees, x);
-    limits[x] = 0;
+    subtract_row(tables, &mut bytes.degrees, x);
+    bytes.limits[x] = 0;
     marks[x] = 0;
 }
 

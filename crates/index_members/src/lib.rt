@@ -9,15 +9,12 @@ ghost use Rattle.index_members.specs.Members.{least_level};
 pub fn row(alpha: u16) -> u16
     ensures { result ≡ row_for alpha }
 {
-    if alpha == 0 { 1 } else { alpha }
+    alpha.max(1)
 }
 
 // The least level with which a node is in: 0 where its own limit is 0, else beta, and at least 1.
 pub fn least(limit: u16, beta: u16) -> u16
     ensures { result ≡ least_level limit beta }
 {
-    if limit == 0 {
-        return 0;
-    }
-    if beta == 0 { 1 } else { beta }
+    if limit == 0 { 0 } else { beta.max(1) }
 }

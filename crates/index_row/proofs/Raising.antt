@@ -18,7 +18,7 @@ use Rattle.model.proofs.Peel.{degree_operator, degree_ride, degree_mono}
 use Rattle.model.proofs.Cover.{limits_operator, limits_ride, cover_core, cover_holds, cover_laws}
 use Rattle.model.proofs.Level.{level_largest, level_in}
 use Rattle.model.proofs.Store.{part_length, part_at, put_before, put_at, front_at, front_after}
-use Rattle.graph_tables.specs.Table.{joined, table_graph}
+use Rattle.graph_tables.specs.Table.{Tables, joined, table_graph}
 use Rattle.graph_tables.proofs.Held.{joined_mirrored}
 use Rattle.index_sweeps.specs.Sweep.{falls, Side, SideSwept}
 use Rattle.index_row.specs.Row.{kept_set, Work, work, Fits, Raising, Settled, Rounded, Lower, Least, Start}
@@ -379,20 +379,6 @@ module _ (n m : ℕ) (t t' : List ℕ) (α β : ℕ) (a : 1 ≤ α) (b : 1 ≤ �
           (λ x h. put_before w.levels part _ n (omega (arith, inside)) x 0 h)
           (λ v h. put_at w.levels part _ n (omega (arith, inside)) v 0 (omega (arith, part_m)))))
 
--- ---- lists of the same lengths
-
-module _ (n m : ℕ) (t t' : List ℕ) (w w' : Work) (fits : Fits n m t t' w) where
-  pub fits_again : length w'.operators ≡ length w.operators → length w'.operator_degrees ≡ length w.operator_degrees → length w'.rides ≡ length w.rides → length w'.ride_degrees ≡ length w.ride_degrees → length w'.levels ≡ length w.levels → Fits n m t t' w'
-  fits_again o od r rd l =
-      record {
-        operators = o ∙ fits.operators;
-        operator_degrees = od ∙ fits.operator_degrees;
-        rides = r ∙ fits.rides;
-        ride_degrees = rd ∙ fits.ride_degrees;
-        levels = l ∙ fits.levels;
-        tables = fits.tables;
-      }
-
 -- ---- the least degree
 
 module _ (kept degrees : List ℕ) where
@@ -413,7 +399,7 @@ module _ (kept degrees : List ℕ) where
 
 -- ---- from one β to the next, from the start to the end
 
-module _ (n m : ℕ) (t t' : List ℕ) (α : ℕ) (a : 1 ≤ α) (w : Work) (fits : Fits n m t t' w) where
+module _ (n m : ℕ) (t t' : List ℕ) (α : ℕ) (a : 1 ≤ α) (w : Work) (tables : Tables (table_graph n m t) t t') (long : length w.levels ≡ n + m) where
   abbrev gʳ : Graph
   gʳ = table_graph n m t
 
@@ -469,7 +455,7 @@ module _ (n m : ℕ) (t t' : List ℕ) (α : ℕ) (a : 1 ≤ α) (w : Work) (fit
             least.low v h k,
             raising.ride_degrees v h,
             count_le (λ (u : ℕ). joined t 60 u v && marked w.operators u) n,
-            fits.tables.by_ride.wide,
+            tables.by_ride.wide,
           )
 
       nobody : (x : ℕ) → x < n + m → T (kept_set n w.operators w.rides x) → ⊥
@@ -485,5 +471,5 @@ module _ (n m : ℕ) (t t' : List ℕ) (α : ℕ) (a : 1 ≤ α) (w : Work) (fit
       pub raising_end : w.levels ≡ row gʳ α
       unfolding row
       raising_end =
-          ext_get_or 0 w.levels (values (n + m) (level gʳ α)) (fits.levels ∙ sym (length_values (level gʳ α) (n + m)))
-          (λ x h. raising.levels x (omega (arith, fits.levels)) (nobody x (omega (arith, fits.levels))) ∙ sym (getD_values (level gʳ α) (n + m) x 0 (omega (arith, fits.levels))))
+          ext_get_or 0 w.levels (values (n + m) (level gʳ α)) (long ∙ sym (length_values (level gʳ α) (n + m)))
+          (λ x h. raising.levels x (omega (arith, long)) (nobody x (omega (arith, long))) ∙ sym (getD_values (level gʳ α) (n + m) x 0 (omega (arith, long))))

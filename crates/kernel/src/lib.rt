@@ -12,6 +12,7 @@ ghost use Rattle.limits_cover.specs.Cover.{Over};
 
 use graph_degrees::Degrees;
 use model::Head;
+use pairs::PairTable;
 
 // Reads a pair table once: both tables, which come in as zeros, and the degrees, of the pairs whose nodes are both here.
 #[unsafe(no_mangle)]
@@ -28,7 +29,12 @@ pub extern "C" fn kernel_tables(
         ReadUpTo head.pairs head operators.now rides.now on
         by_operator.new by_ride.new result.operators result.rides }
 {
-    graph_degrees::tabulate(head, operators, rides, here, by_operator, by_ride)
+    let table = PairTable {
+        head,
+        operators,
+        rides,
+    };
+    graph_degrees::tabulate(table, here, by_operator, by_ride)
 }
 
 // The cover under these limits, over tables that are there.
@@ -65,5 +71,10 @@ pub extern "C" fn kernel_pair_cover(
         marks.new
         ≡ over (cover_under (first_pairs head operators.now rides.now on head.pairs) (limit_of limits.now)) marks.old }
 {
-    limits_cover_pairs::cover(head, operators, rides, here, limits, marks);
+    let table = PairTable {
+        head,
+        operators,
+        rides,
+    };
+    limits_cover_pairs::cover(table, here, limits, marks);
 }

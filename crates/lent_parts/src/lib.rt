@@ -1,149 +1,102 @@
 // A part as a frame lends it (reference/README.md): its memory set, cut to the places lent, and its checksum.
 #![tactic(auto)]
 
-// A run of places, from the first to before the end: each is set to the number at a place of the frame, which is so many
-// words further on for the next.
-#[derive(Clone, Copy)]
-struct Run {
-    first: usize,
-    end: usize,
-    at: usize,
-    stride: usize,
+use frames::Words;
+
+// The numbers that a part has: words, or numbers of 32 bits.
+pub trait Number: Copy {
+    // The next one of a frame.
+    fn read(words: &mut Words<'_>) -> Self;
+
+    fn long(self) -> u32;
 }
 
-// Whether the part at a place of the frame fills what it lends.
-fn fills(frame: &[u8], at: usize) -> bool {
-    frames::word(frame, frames::past(at, 1)) % 2 == 1
-}
+impl Number for u16 {
+    fn read(words: &mut Words<'_>) -> u16 {
+        words.word()
+    }
 
-// The places that a part fills.
-fn filled(frame: &[u8], at: usize) -> Run {
-    Run {
-        first: 0,
-        end: frames::only(fills(frame, at), frames::word(frame, at) as usize),
-        at: frames::past(at, 2),
-        stride: 0,
+    fn long(self) -> u32 {
+        u32::from(self)
     }
 }
 
-// The places that a part puts words to. A number is so many words wide.
-fn put(frame: &[u8], at: usize, width: usize) -> Run {
-    let puts = frames::word(frame, frames::past(at, 1)) >= 2;
-    let run = frames::past(frames::past(at, 2), frames::only(fills(frame, at), width));
-    let first = frames::word(frame, run) as usize;
-    let count = frames::word(frame, frames::past(run, 1)) as usize;
-    Run {
-        first,
-        end: first + frames::only(puts, count),
-        at: frames::past(run, frames::only(puts, 2)),
-        stride: width,
+impl Number for u32 {
+    fn read(words: &mut Words<'_>) -> u32 {
+        words.long()
+    }
+
+    fn long(self) -> u32 {
+        self
     }
 }
 
-// Puts a number to a place, if it is there.
-pub fn store(memory: &mut [u16], i: usize, number: u16) {
-    if i < memory.len() {
-        memory[i] = number;
+// A part: its memory, and how many places the call at hand is said to be lent, which may be more than there are.
+#[derive(Drop)]
+pub struct Part<'a, T> {
+    memory: &'a mut [T],
+    places: usize,
+}
+
+impl<'a, T: Number> Part<'a, T> {
+    // A part of which nothing is lent yet.
+    pub fn new(memory: &'a mut [T]) -> Part<'a, T> {
+        Part { memory, places: 0 }
+    }
+
+    // Sets the memory as the next words of a frame say.
+    fn set(&mut self, words: &mut Words<'_>) {
+        let mode = words.word();
+        if mode % 2 == 1 {
+            let number = T::read(words);
+            for place in self.lent() {
+                *place = number;
+            }
+        }
+        if mode >= 2 {
+            let first = usize::from(words.word());
+            let count = usize::from(words.word());
+            for i in first..first + count {
+                let number = T::read(words);
+                if let Some(place) = self.memory.get_mut(i) {
+                    *place = number;
+                }
+            }
+        }
+    }
+
+    // Lends the part as the next words of a frame say, where the frame has the part.
+    pub fn load(&mut self, words: &mut Words<'_>, has: bool) {
+        self.places = 0;
+        if has {
+            self.places = usize::from(words.word());
+            self.set(words);
+        }
+    }
+
+    // The places lent, of those that there are.
+    pub fn lent(&mut self) -> &mut [T] {
+        let n = self.places.min(self.memory.len());
+        &mut self.memory[..n]
+    }
+
+    // The same, to read.
+    pub fn read(&self) -> &[T] {
+        let n = self.places.min(self.memory.len());
+        &self.memory[..n]
+    }
+
+    // The checksum with the places lent more. Where the memory has no such place there is a 0.
+    pub fn checksum(&self, sum: u64) -> u64 {
+        let mut h = sum;
+        for i in 0..self.places {
+            h = add(h, self.memory.get(i).map_or(0, |number| number.long()));
+        }
+        h
     }
 }
 
-fn store_long(memory: &mut [u32], i: usize, number: u32) {
-    if i < memory.len() {
-        memory[i] = number;
-    }
-}
-
-// Sets the places of a run, and answers the place of the frame after it. A part is of words or of longs, and the other
-// memory is empty.
-fn set(frame: &[u8], run: Run, words: &mut [u16], longs: &mut [u32]) -> usize {
-    let mut at = run.at;
-    for i in run.first..run.end {
-        store(words, i, frames::word(frame, at));
-        store_long(longs, i, frames::long(frame, at));
-        at = frames::past(at, run.stride);
-    }
-    at
-}
-
-// How many places a call lends of a part, and the place in the frame of the next part.
-#[derive(Clone, Copy)]
-pub struct Loaded {
-    pub places: usize,
-    pub next: usize,
-}
-
-// Sets the memory as the part at a place of the frame says, where the frame has the part.
-fn load_part(
-    frame: &[u8],
-    at: usize,
-    has: bool,
-    width: usize,
-    words: &mut [u16],
-    longs: &mut [u32],
-) -> Loaded {
-    if !has {
-        return Loaded {
-            places: 0,
-            next: at,
-        };
-    }
-    set(frame, filled(frame, at), words, longs);
-    Loaded {
-        places: frames::word(frame, at) as usize,
-        next: set(frame, put(frame, at, width), words, longs),
-    }
-}
-
-pub fn load(frame: &[u8], at: usize, has: bool, memory: &mut [u16]) -> Loaded {
-    load_part(frame, at, has, 1, memory, &mut [])
-}
-
-pub fn load_longs(frame: &[u8], at: usize, has: bool, memory: &mut [u32]) -> Loaded {
-    load_part(frame, at, has, 2, &mut [], memory)
-}
-
-// The first places of a part, of those that there are.
-pub fn first(memory: &mut [u16], places: usize) -> &mut [u16] {
-    let n = frames::least(places, memory.len());
-    &mut memory[0..n]
-}
-
-pub fn first_longs(memory: &mut [u32], places: usize) -> &mut [u32] {
-    let n = frames::least(places, memory.len());
-    &mut memory[0..n]
-}
-
-// A word as a 32-bit number.
-fn long_of(word: u16) -> u32 {
-    word as u32
-}
-
-// The checksum with one word more.
-fn add(sum: u64, word: u32) -> u64 {
-    (sum % 2147483647 * 65599 + word as u64) % 2147483647
-}
-
-// The number at a place of a part.
-fn number(words: &[u16], longs: &[u32], i: usize) -> u32 {
-    if i < words.len() {
-        return long_of(words[i]);
-    }
-    if i < longs.len() { longs[i] } else { 0 }
-}
-
-// The checksum with the first places of a part more.
-fn sum(sum: u64, places: usize, words: &[u16], longs: &[u32]) -> u64 {
-    let mut h = sum;
-    for i in 0..places {
-        h = add(h, number(words, longs, i));
-    }
-    h
-}
-
-pub fn checksum(h: u64, places: usize, words: &[u16]) -> u64 {
-    sum(h, places, words, &[])
-}
-
-pub fn checksum_longs(h: u64, places: usize, longs: &[u32]) -> u64 {
-    sum(h, places, &[], longs)
+// The checksum with one number more.
+pub fn add(sum: u64, number: u32) -> u64 {
+    (sum % 2147483647 * 65599 + u64::from(number)) % 2147483647
 }

@@ -23,43 +23,24 @@ fn own_limit(minimum: u16, beta: u16) -> u16
     if minimum == 0 { beta } else { minimum }
 }
 
-// The limits of so many operators, by their words.
-fn fill_operators(presence: &[u16], alpha: u16, high: u16, limits: &mut [u16], operators: usize)
-    requires { (operators ≤ length presence.now) × (operators ≤ length limits.old) }
-    ensures { (x : ℕ) → x < operators → limit_of limits.new x ≡ elim (present presence.now x) [ true ↦ alpha | false ↦ high ] }
+// The limits of operators, by their words.
+fn fill_operators(presence: &[u16], alpha: u16, high: u16, limits: &mut [u16])
+    requires { length limits.old ≤ length presence.now }
+    ensures { (u : ℕ) → u < length limits.old → limit_of limits.new u ≡ elim (present presence.now u) [ true ↦ alpha | false ↦ high ] }
 {
-    let mut u = 0;
-    while u < operators {
+    for u in 0..limits.len() {
         limits[u] = node_limit(presence[u], alpha, high);
-        u += 1;
     }
 }
 
-// The limits of so many rides, behind those of the operators, by their words and minimums.
-fn fill_rides(
-    presence: &[u16],
-    minimums: &[u16],
-    beta: u16,
-    high: u16,
-    limits: &mut [u16],
-    operators: usize,
-    rides: usize,
-)
-    requires { (operators ≤ 200) × (rides ≤ 60) × (operators + rides ≤ length presence.now) × (rides ≤ length minimums.now) ×
-        (operators + rides ≤ length limits.old) }
-    ensures { ((x : ℕ) → x < operators → limit_of limits.new x ≡ limit_of limits.old x) ×
-        ((x : ℕ) → operators ≤ x → x < operators + rides →
-        limit_of limits.new x
-        ≡ elim (present presence.now x) [ true ↦ ride_limit minimums.now beta (x - operators) | false ↦ high ]) }
+// The limits of rides, by their words and minimums.
+fn fill_rides(presence: &[u16], minimums: &[u16], beta: u16, high: u16, limits: &mut [u16])
+    requires { (length limits.old ≤ length presence.now) × (length limits.old ≤ length minimums.now) }
+    ensures { (v : ℕ) → v < length limits.old →
+        limit_of limits.new v ≡ elim (present presence.now v) [ true ↦ ride_limit minimums.now beta v | false ↦ high ] }
 {
-    let mut v = 0;
-    while v < rides {
-        limits[operators + v] = node_limit(
-            presence[operators + v],
-            own_limit(minimums[v], beta),
-            high,
-        );
-        v += 1;
+    for v in 0..limits.len() {
+        limits[v] = node_limit(presence[v], own_limit(minimums[v], beta), high);
     }
 }
 
@@ -81,21 +62,21 @@ pub fn fill(
     let n = head.operators as usize;
     let m = head.rides as usize;
     let high = head.operators + head.rides + 1;
-    fill_operators(presence, alpha, high, limits, n);
-    fill_rides(presence, minimums, beta, high, limits, n, m);
+    fill_operators(&presence[..n], alpha, high, &mut limits[..n]);
+    fill_rides(
+        &presence[n..n + m],
+        &minimums[..m],
+        beta,
+        high,
+        &mut limits[n..n + m],
+    );
 }
 
 // The limit of a node in a byte, by its mark.
 fn byte(limit: u16, mark: u16) -> u8
     ensures { result ≡ elim (eqb mark 1) [ true ↦ min limit 255 | false ↦ 0 ] }
 {
-    if mark != 1 {
-        return 0;
-    }
-    if 255 <= limit {
-        return 255;
-    }
-    limit as u8
+    if mark == 1 { limit.min(255) as u8 } else { 0 }
 }
 
 // The limits of those marked in bytes.
@@ -104,10 +85,8 @@ pub fn bytes(limits: &[u16], marks: &[u16], nodes: usize) -> [u8; 260]
     ensures { (x : ℕ) → x < nodes → get_or result x 0 ≡ byte_limit (limit_of limits.now) marks.now x }
 {
     let mut all = [0u8; 260];
-    let mut x = 0;
-    while x < nodes {
+    for x in 0..nodes {
         all[x] = byte(limits[x], marks[x]);
-        x += 1;
     }
     all
 }

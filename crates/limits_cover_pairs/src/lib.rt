@@ -1,5 +1,5 @@
-// Covers from pair arrays: the cover under a list of limits; that of those present under limits for operators and rides, own minimums included, with
-// its counts; and what a refused cover answers.
+// Covers from pair arrays: the cover under a list of limits; and that of those present under limits for operators and rides, own minimums included,
+// with its counts.
 #![tactic(auto)]
 
 ghost use Rattle.std.specs.Prelude.{◌≡◌, Bool, ℕ, ◌≤◌, ◌<◌, length, get_or};
@@ -7,38 +7,26 @@ ghost use Rattle.model.specs.Graph.{cover_under, own_limits};
 ghost use Rattle.model.specs.Layout.{mark_places, over};
 ghost use Rattle.model.specs.Calls.{counts, shown, present_cover};
 ghost use Rattle.model.specs.Outcome.{queried};
-ghost use Rattle.pairs.specs.Accepted.{AcceptedPairs};
 ghost use Rattle.limits.specs.Limits.{limit_of};
 ghost use Rattle.graph_degrees.specs.Degrees.{Bytes, first_pairs};
 
 use model::{Counts, Head};
+use pairs::PairTable;
 
 // Marks the cover under these limits, a word for each node, of the pairs whose nodes are both here; the marks that come in aren't read.
-pub fn cover(
-    head: Head,
-    operators: &[u16],
-    rides: &[u16],
-    here: &[u8],
-    limits: &[u16],
-    marks: &mut [u16],
-)
-    requires { AcceptedPairs head operators.now rides.now × ((on : ℕ → Bool) × Bytes head on here.now) ×
-        (mark_places head ≤ length limits.now) × (mark_places head ≤ length marks.old) }
-    ensures { (on : ℕ → Bool) → Bytes head on here.now →
+pub fn cover(table: PairTable<'_>, here: &[u8], limits: &[u16], marks: &mut [u16])
+    requires { ((on : ℕ → Bool) × Bytes table.head on here.now) ×
+        (mark_places table.head ≤ length limits.now) × (mark_places table.head ≤ length marks.old) }
+    ensures { (on : ℕ → Bool) → Bytes table.entry.head on here.now →
         marks.new
-        ≡ over (cover_under (first_pairs head operators.now rides.now on head.pairs) (limit_of limits.now)) marks.old }
+        ≡ over (cover_under
+        (first_pairs table.entry.head table.entry.operators.now table.entry.rides.now on table.entry.head.pairs)
+        (limit_of limits.now)) marks.old }
 {
     let mut by_operator = [0u8; 12000];
     let mut by_ride = [0u8; 12000];
-    let degrees = graph_degrees::tabulate(
-        head,
-        operators,
-        rides,
-        here,
-        &mut by_operator,
-        &mut by_ride,
-    );
-    limits_cover::cover(head, &by_operator, &by_ride, degrees, limits, marks);
+    let degrees = graph_degrees::tabulate(table, here, &mut by_operator, &mut by_ride);
+    limits_cover::cover(table.head, &by_operator, &by_ride, degrees, limits, marks);
 }
 
 // The counts of operators and rides marked, where all marks are 0 or 1.
@@ -56,39 +44,26 @@ fn count(head: Head, marks: &[u16]) -> Counts
     }
 }
 
-// What a refused cover answers.
-pub fn refused(number: u16) -> Counts
-    ensures { result ≡ record { code = number; operators = 0; rides = 0 } }
-{
-    Counts {
-        code: number,
-        operators: 0,
-        rides: 0,
-    }
-}
-
 // Marks the cover (alpha, beta) with minimums of the pairs that count and those present, and counts it; the marks that come in aren't read.
 pub fn cover_present(
-    head: Head,
-    operators: &[u16],
-    rides: &[u16],
+    table: PairTable<'_>,
     presence: &[u16],
     minimums: &[u16],
     alpha: u16,
     beta: u16,
     marks: &mut [u16],
 ) -> Counts
-    requires { AcceptedPairs head operators.now rides.now × (mark_places head ≤ length presence.now) × (head.rides ≤ length minimums.now) ×
-        (mark_places head ≤ length marks.old) }
+    requires { (mark_places table.head ≤ length presence.now) × (table.head.rides ≤ length minimums.now) ×
+        (mark_places table.head ≤ length marks.old) }
     ensures { queried result marks.new
-        ≡ shown head
-        (present_cover head operators.now rides.now presence.now
-        (own_limits head.operators minimums.now alpha beta))
+        ≡ shown table.entry.head
+        (present_cover table.entry.head table.entry.operators.now table.entry.rides.now presence.now
+        (own_limits table.entry.head.operators minimums.now alpha beta))
         marks.old }
 {
-    let here = graph_degrees::present(head, presence);
+    let here = graph_degrees::present(table.head, presence);
     let mut limits = [0u16; 260];
-    limits::fill(head, presence, minimums, alpha, beta, &mut limits);
-    cover(head, operators, rides, &here, &limits, marks);
-    count(head, marks)
+    limits::fill(table.head, presence, minimums, alpha, beta, &mut limits);
+    cover(table, &here, &limits, marks);
+    count(table.head, marks)
 }

@@ -7,7 +7,6 @@ use Prim.Native.Nat.{ℕ, zero, suc, ◌-◌, ◌/◌, ◌%◌, ◌≤◌, ◌<�
 use native.Mathlib.Omega.{arith}
 use native.Mathlib.Decide.{dec_lt, ℕ_discrete}
 use lib.Dec.{T, ltb, eqb}
-use borrow.Author.Tests.{ne_eqb}
 use lib.Arith.{digits_lt}
 use lib.ListN.{length, get_or, set, length-set}
 use lib.Seq.{get_or-set_same, get_or-set_other, drop-set-lt}
@@ -18,14 +17,14 @@ use Rattle.model.specs.Graph.{Graph}
 use Rattle.model.specs.Layout.{Part, Operators, Rides, Stamps, Revisions, Index, PresenceStamps, PresenceRevisions, Presence, Board, lent, pair_places, mark_places, places, over, onto, sized, listed, listed_graph}
 use Rattle.model.specs.Contents.{Slot, Pair, Operator, Ride, Entry, gives, giving, Contents, slot, entry, put, given, contents, pair_place, ride_place, entry_at, node_slot, pair_numbers, padded, words, board_of}
 use Rattle.model.specs.Message.{board_after}
-use Rattle.model.proofs.Count.{bit_test, or_false}
+use Rattle.model.proofs.Count.{bit_test}
 use Rattle.model.proofs.Pairs.{number_same, rows_over, values_over}
-use Rattle.model.proofs.Refusal.{slot_pair, by_kind, Within, Valid, valid_none}
+use Rattle.model.proofs.Refusal.{slot_pair, by_kind, Within, Valid, none_valid, valid_none, cases_none}
 use Rattle.model.proofs.Contents.{by_slot, put_same, put_other, pair_or_operator, pair_or_ride, slot_of_operator, slot_of_ride}
 use Rattle.part_presence.specs.Presence.{node_place}
 use Rattle.part_presence.proofs.Presence.{place_within}
 use Rattle.pairs_change.specs.Change.{graph_with, Arrays}
-use Rattle.refusal_message.specs.Room.{in_use}
+use Rattle.refusal_message.specs.Room.{in_use, Room}
 use Rattle.message_entry.specs.Enter.{Enters, with_pairs, with_index, entered, number_of, entered_valid}
 
 -- ---- a place and its slot
@@ -167,10 +166,6 @@ module _ (b : Board) (x : ℕ) (e : Entry) (inside : x < mark_places b.head) whe
 
 -- ---- a message
 
--- a message for a pair gives exactly if it is a grant
-pub pair_gives : (m : Message) → m.kind ≤ 2 → gives (entry m) ≡ eqb m.kind 1
-pair_gives m k = bit_test (giving m.kind) ∙ rw (ne_eqb m.kind 3 (omega arith), ne_eqb m.kind 5 (omega arith)) (or_false (eqb m.kind 1))
-
 pub entered_slot : (b : Board) (m : Message) (t : Slot) → t ≡ slot m → said b t (entry m) ≡ entered b m
 unfolding entered board_after
 entered_slot b m t q = ap (λ (x : Slot). said b x (entry m)) q
@@ -187,15 +182,15 @@ module _ (b : Board) (m : Message) (ready : Enters b m) where
     pub pair_within : (m.operator < b.head.operators) × (m.ride < b.head.rides)
     pair_within = subst (Within b.head) (slot_pair m k) valid.within
 
-    pub pair_entered : (count : ℕ) (operators rides stamps revisions : List ℕ) → (stamps ≡ set (b.part Stamps) (pair_place b.head m.operator m.ride) m.stamp) × (revisions ≡ set (b.part Revisions) (pair_place b.head m.operator m.ride) m.revision) → Arrays b.head (graph_with b.head (b.part Operators) (b.part Rides) m.operator m.ride (eqb m.kind 1)) (b.part Operators) (b.part Rides) count operators rides → lent (with_pairs b.head count) operators rides stamps revisions (b.part Index) (b.part PresenceStamps) (b.part PresenceRevisions) (b.part Presence) ≡ entered b m
-    pair_entered count operators rides stamps revisions s a =
+    pub pair_entered : (to : Bool) → to ≡ giving m.kind → (count : ℕ) (operators rides stamps revisions : List ℕ) → (stamps ≡ set (b.part Stamps) (pair_place b.head m.operator m.ride) m.stamp) × (revisions ≡ set (b.part Revisions) (pair_place b.head m.operator m.ride) m.revision) → Arrays b.head (graph_with b.head (b.part Operators) (b.part Rides) m.operator m.ride to) (b.part Operators) (b.part Rides) count operators rides → lent (with_pairs b.head count) operators rides stamps revisions (b.part Index) (b.part PresenceStamps) (b.part PresenceRevisions) (b.part Presence) ≡ entered b m
+    pair_entered to given count operators rides stamps revisions s a =
         let u : ℕ = m.operator in
         let v : ℕ = m.ride in
         let e : Entry = entry m in
         let w = pair_within in
         let other : (y : ℕ) → node_slot b.head y ≡ Pair u v → ⊥ = λ y q. pair_no_node b.head u v y (sym q) in
         said_is b (Pair u v) e _ count operators rides stamps revisions _ _ _
-        (pair_cleared b u v e w.0 w.1 (eqb m.kind 1) (pair_gives m k)) a
+        (pair_cleared b u v e w.0 w.1 to (bit_test (giving m.kind) ∙ sym given)) a
         (s.0 ∙ pair_set b u v e w.0 w.1 (λ x. x.stamp) (b.part Stamps) (long Stamps tt) (λ x y. refl))
         (s.1 ∙ pair_set b u v e w.0 w.1 (λ x. x.revision) (b.part Revisions) (long Revisions tt) (λ x y. refl))
         (nodes_kept b (Pair u v) e other (λ x. x.stamp) (b.part PresenceStamps) (long PresenceStamps tt) (λ y. refl))
@@ -228,6 +223,10 @@ module _ (b : Board) (m : Message) (ready : Enters b m) where
 -- ---- entered, or refused
 
 module _ (b : Board) (m : Message) where
+  -- a board with room is ready for a message that is not refused
+  pub enters_none : Room b → number_of b m ≡ 0 → Enters b m
+  enters_none room e = record { room = room; valid = none_valid b.head m (cases_none b m e).0 }
+
   pub entered_none : number_of b m ≡ 0 → entered b m ≡ entered_valid b m
   entered_none e = rw (e, entered_valid)
 

@@ -3,68 +3,54 @@
 
 ghost use Rattle.std.specs.Prelude.{◌≡◌, ◌<◌, ◌≤◌, length};
 ghost use Rattle.model.specs.Count.{some};
-ghost use Rattle.model.specs.Layout.{mark_places, index_places, counting_graph};
+ghost use Rattle.model.specs.Layout.{mark_places, index_places, board_graph};
 ghost use Rattle.pairs.specs.Accepted.{AcceptedPairs};
+ghost use Rattle.part_board.specs.Lent.{mut_board, SameParts};
+ghost use Rattle.message_entry.specs.Enter.{with_index};
 ghost use Rattle.message_list_end.specs.Ending.{taken_at, filled_index, index_turned};
 
-use model::Head;
+use pairs::PairTable;
+use part_board::BoardMut;
 
 // Whether one of these numbers is 0.
 fn any_taken(numbers: &[u16]) -> bool
     ensures { result ≡ some (length numbers.now) (taken_at numbers.now) }
 {
-    let n = numbers.len();
-    let mut i = 0;
-    while i < n {
-        if numbers[i] == 0 {
-            return true;
-        }
-        i += 1;
-    }
-    false
+    numbers.contains(&0)
 }
 
 // Fills the index, if one of these numbers is 0.
-fn fill_taken(
-    head: Head,
-    operators: &[u16],
-    rides: &[u16],
-    presence: &[u16],
-    index: &mut [u16],
-    numbers: &[u16],
-)
-    requires { AcceptedPairs head operators.now rides.now × (mark_places head ≤ length presence.now) × (index_places head ≤ length index.old) }
-    ensures { index.new
-        ≡ filled_index (length numbers.now)
-        (counting_graph head operators.now rides.now presence.now)
-        index.old numbers.now }
+fn fill_taken(board: &mut BoardMut<'_>, numbers: &[u16])
+    requires pairs { AcceptedPairs board.old.head board.old.operators.now board.old.rides.now }
+    requires presence { mark_places board.old.head ≤ length board.old.presence.now }
+    requires index { index_places board.old.head ≤ length board.old.index.now }
+    ensures same { SameParts board.old board.new }
+    ensures done { mut_board board.new ≡ with_index (mut_board board.old)
+        (filled_index (length numbers.now) (board_graph (mut_board board.old)) board.old.index.now numbers.now) }
 {
     if any_taken(numbers) {
-        index_fill::fill_index(head, operators, rides, presence, index);
+        let table = PairTable {
+            head: board.head,
+            operators: &mut *board.operators,
+            rides: &mut *board.rides,
+        };
+        let presence = &mut *board.presence;
+        index_fill::fill_index(table, presence, board.index);
     }
 }
 
 // Fills the index after the last of n turns, if one of their numbers is 0.
-pub fn finish(
-    head: Head,
-    at: usize,
-    n: usize,
-    operators: &[u16],
-    rides: &[u16],
-    presence: &[u16],
-    index: &mut [u16],
-    numbers: &[u16],
-)
-    requires { AcceptedPairs head operators.now rides.now ×
-        (mark_places head ≤ length presence.now) ×
-        (index_places head ≤ length index.old) ×
-        (at < n) ×
-        (n ≤ length numbers.now) }
-    ensures { index.new
-        ≡ index_turned at n (counting_graph head operators.now rides.now presence.now)
-        index.old numbers.now }
+pub fn finish(board: &mut BoardMut<'_>, at: usize, n: usize, numbers: &[u16])
+    requires pairs { AcceptedPairs board.old.head board.old.operators.now board.old.rides.now }
+    requires presence { mark_places board.old.head ≤ length board.old.presence.now }
+    requires index { index_places board.old.head ≤ length board.old.index.now }
+    requires turn { at < n }
+    requires numbers { n ≤ length numbers.now }
+    ensures same { SameParts board.old board.new }
+    ensures done { mut_board board.new ≡ with_index (mut_board board.old)
+        (index_turned at n (board_graph (mut_board board.old)) board.old.index.now numbers.now) }
 {
     if at + 1 == n {
-        fill_taken(head, operators, rides, presence, index, &numbers[0..n]);
+        fill_taken(board, &numbers[..n]);
     }
 }

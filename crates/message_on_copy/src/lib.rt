@@ -1,79 +1,23 @@
 // A message taken on a copy of the board.
 #![tactic(auto)]
 
-ghost use Rattle.std.specs.Prelude.{◌≡◌};
-ghost use Rattle.model.specs.Layout.{parts, lent, copied};
+ghost use Rattle.std.specs.Prelude.{◌≡◌, Ok};
+ghost use Rattle.model.specs.Layout.{copied};
 ghost use Rattle.model.specs.Refusal.{preview_refusal};
 ghost use Rattle.model.specs.Message.{board_message};
+ghost use Rattle.part_board.specs.Lent.{ref_board, mut_board, SameParts};
 ghost use Rattle.message_taking.specs.Deliver.{outcome_of};
 
-use message_taking::Delivered;
-use model::{Head, Message};
+use model::Message;
+use part_board::{BoardMut, BoardRef};
 
-// Copies the board to the spare memory, and takes the message there.
-pub fn take_on_copy(
-    head: Head,
-    message: Message,
-    operators: &[u16],
-    rides: &[u16],
-    stamps: &[u32],
-    revisions: &[u16],
-    index: &[u16],
-    presence_stamps: &[u32],
-    presence_revisions: &[u16],
-    presence: &[u16],
-    spare_operators: &mut [u16],
-    spare_rides: &mut [u16],
-    spare_stamps: &mut [u32],
-    spare_revisions: &mut [u16],
-    spare_index: &mut [u16],
-    spare_presence_stamps: &mut [u32],
-    spare_presence_revisions: &mut [u16],
-    spare_presence: &mut [u16],
-) -> Delivered
-    requires { preview_refusal (lent head operators.now rides.now stamps.now revisions.now index.now
-        presence_stamps.now presence_revisions.now presence.now) message
-        (parts spare_operators.old spare_rides.old spare_stamps.old spare_revisions.old spare_index.old
-        spare_presence_stamps.old spare_presence_revisions.old spare_presence.old) ≡ 0 }
-    ensures { outcome_of result (lent head spare_operators.new spare_rides.new spare_stamps.new
-        spare_revisions.new spare_index.new
-        spare_presence_stamps.new spare_presence_revisions.new spare_presence.new)
-        ≡ board_message
-        (copied (lent head operators.now rides.now stamps.now revisions.now index.now
-        presence_stamps.now presence_revisions.now presence.now)
-        (parts spare_operators.old spare_rides.old spare_stamps.old spare_revisions.old
-        spare_index.old
-        spare_presence_stamps.old spare_presence_revisions.old spare_presence.old)) message }
+// Copies the board to the spare memory, and takes the message there. How many index words differ before and after.
+pub fn take_on_copy(board: BoardRef<'_>, message: Message, spare: &mut BoardMut<'_>) -> u16
+    requires { preview_refusal (ref_board board) message (mut_board spare.old).part ≡ 0 }
+    ensures same { SameParts spare.old spare.new }
+    ensures outcome { outcome_of (Ok result) (mut_board spare.new)
+        ≡ board_message (copied (ref_board board.entry) (mut_board spare.old).part) message }
 {
-    part_copy::copy_board(
-        head,
-        operators,
-        rides,
-        stamps,
-        revisions,
-        index,
-        presence_stamps,
-        presence_revisions,
-        presence,
-        spare_operators,
-        spare_rides,
-        spare_stamps,
-        spare_revisions,
-        spare_index,
-        spare_presence_stamps,
-        spare_presence_revisions,
-        spare_presence,
-    );
-    message_taking::take(
-        head,
-        message,
-        spare_operators,
-        spare_rides,
-        spare_stamps,
-        spare_revisions,
-        spare_index,
-        spare_presence_stamps,
-        spare_presence_revisions,
-        spare_presence,
-    )
+    part_copy::copy_board(board, spare);
+    message_taking::take(spare, message)
 }

@@ -1,48 +1,46 @@
-// Whether a message is later than the last of its pair, operator or ride: by the stamp, the revision, and whether each gives.
+// What a message speaks of, and whether it is later than the last of its pair, operator or ride: by the stamp, the revision, and whether each gives.
 #![tactic(auto)]
 
 ghost use Rattle.std.specs.Prelude.{◌≡◌};
 ghost use Rattle.model.specs.Count.{bit};
-ghost use Rattle.model.specs.Contents.{giving, later, entry};
-ghost use Rattle.message_order.specs.Order.{exceeds};
+ghost use Rattle.model.specs.Contents.{giving, later, entry, slot};
+ghost use Rattle.message_order.specs.Slot.{slot_is};
 
 use model::Message;
 
-// Whether a stamp and a revision exceed others.
-fn exceeds(stamp: u32, revision: u16, other: u32, other_revision: u16) -> bool
-    ensures { result ≡ exceeds stamp revision other other_revision }
-{
-    if stamp == other {
-        return other_revision < revision;
+// What a message speaks of.
+#[derive(Clone, Copy, Debug, PartialEq, Eq)]
+pub enum Slot {
+    Pair { operator: u16, ride: u16 },
+    Operator(u16),
+    Ride(u16),
+}
+
+impl From<Message> for Slot {
+    ghost from_gives = { λ message slot_of. slot_is slot_of ≡ slot message };
+
+    fn from(message: Message) -> Slot {
+        match message.kind {
+            0..=2 => Slot::Pair {
+                operator: message.operator,
+                ride: message.ride,
+            },
+            3 | 4 => Slot::Operator(message.operator),
+            _ => Slot::Ride(message.ride),
+        }
     }
-    other < stamp
 }
 
 // Whether a kind gives: 1 grant, 3 operator on, 5 ride in.
 pub fn gives(kind: u16) -> bool
     ensures { result ≡ giving kind }
 {
-    if kind == 1 {
-        return true;
-    }
-    if kind == 3 {
-        return true;
-    }
-    kind == 5
+    matches!(kind, 1 | 3 | 5)
 }
 
 // Whether a message is later than the last of its slot, of this stamp and revision, which gives or takes away.
 pub fn is_later(message: Message, stamp: u32, revision: u16, given: bool) -> bool
     ensures { result ≡ later (entry message) (record { stamp = stamp; revision = revision; word = bit given }) }
 {
-    if exceeds(message.stamp, message.revision, stamp, revision) {
-        return true;
-    }
-    if exceeds(stamp, revision, message.stamp, message.revision) {
-        return false;
-    }
-    if gives(message.kind) {
-        return false;
-    }
-    given
+    (stamp, revision, !given) < (message.stamp, message.revision, !gives(message.kind))
 }

@@ -36,10 +36,10 @@ module _ (b : Board) (m : Message) (none : message_refusal b m ≡ 0) where
   take_ready = enters_of b m accepted valid
 
   -- the index can be filled once it is entered
-  pub fill_ready : (x : Board) → x ≡ entered b m → AcceptedPairs x.head (x.part Operators) (x.part Rides) × (mark_places x.head ≤ length (x.part Presence)) × (index_places x.head ≤ length (b.part Index))
+  pub fill_ready : (x : Board) → x ≡ entered b m → AcceptedPairs x.head (x.part Operators) (x.part Rides) × (mark_places x.head ≤ length (x.part Presence)) × (index_places x.head ≤ length (x.part Index))
   unfolding entered board_after
   fill_ready x q =
-      subst (λ (y : Board). AcceptedPairs y.head (y.part Operators) (y.part Rides) × (mark_places y.head ≤ length (y.part Presence)) × (index_places y.head ≤ length (b.part Index))) (sym q)
+      subst (λ (y : Board). AcceptedPairs y.head (y.part Operators) (y.part Rides) × (mark_places y.head ≤ length (y.part Presence)) × (index_places y.head ≤ length (y.part Index))) (sym q)
       (entered_pairs b m accepted valid, (accepted_after b m accepted valid).table.long Presence, accepted.table.long Index)
 
   -- the index of the pairs that then count
@@ -62,13 +62,13 @@ module _ (b : Board) (m : Message) (none : message_refusal b m ≡ 0) where
       count_ext (λ (i : ℕ). not (eqb (get_or old i 0) (get_or (over new old) i 0))) (λ (i : ℕ). not (eqb (get_or old i 0) (get_or new i 0))) (index_places b.head)
       (λ i k. ap (λ (z : ℕ). not (eqb (get_or old i 0) z)) (get_or-append new (drop (length new) old) 0 i (omega arith)))
 
-  pub take_done : (x : Board) → x ≡ entered b m → (differ : ℕ) (index : List ℕ) → index ≡ over (index_of (board_graph x)) (b.part Index) → differ ≡ differing (index_places x.head) (b.part Index) (index_of (board_graph x)) → answered (record { code = 0; differ = differ }) (with_index x index) ≡ board_message b m
+  pub take_done : (x : Board) → x ≡ entered b m → (differ : ℕ) (index : List ℕ) → index ≡ over (index_of (board_graph x)) (x.part Index) → differ ≡ differing (index_places x.head) (x.part Index) (index_of (board_graph x)) → answered (record { code = 0; differ = differ }) (with_index x index) ≡ board_message b m
   unfolding board_after entered
   take_done x q differ index i d =
       let new : List ℕ = words b.head after Index in
-      let filled = i ∙ ap (λ (y : Board). over (index_of (board_graph y)) (b.part Index)) q ∙ ap (λ (l : List ℕ). over l (b.part Index)) index_after in
+      let filled = i ∙ ap (λ (y : Board). over (index_of (board_graph y)) (y.part Index)) q ∙ ap (λ (l : List ℕ). over l (b.part Index)) index_after in
       let counted =
-      d ∙ ap (λ (y : Board). differing (index_places y.head) (b.part Index) (index_of (board_graph y))) q ∙ ap (differing (index_places b.head) (b.part Index)) index_after ∙
+      d ∙ ap (λ (y : Board). differing (index_places y.head) (y.part Index) (index_of (board_graph y))) q ∙ ap (differing (index_places b.head) (b.part Index)) index_after ∙
       sym (differing_over new (omega (arith, length_words b.head after Index))) in
       ap₂ (λ (n : ℕ) (y : Board). answered (record { code = 0; differ = n }) y) counted (ap₂ with_index q filled ∙ whole) ∙
       sym (message_taken b m none)

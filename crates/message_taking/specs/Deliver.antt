@@ -1,13 +1,12 @@
 -- Inner contracts: what `deliver` returns and leaves, as the model's outcome.
-use Rattle.model.specs.Layout.{Board, of_parts}
+use Rattle.std.specs.Prelude.{ℕ, Result, Ok, Err}
+use Rattle.model.specs.Layout.{Board}
 use Rattle.model.specs.Message.{MessageOutcome}
-use Rattle.message_entry.specs.Enter.{with_pairs}
-use Rattle.message_taking.specs.declared.Delivered.{Delivered}
+use Rattle.model.specs.Outcome.{answered}
+use Rattle.refusal_kind.specs.declared.Refusal.{Refusal}
+use Rattle.refusal_kind.specs.Number.{number}
 
--- the answer, and the board at exit: its parts, and the number of pairs after the message
-abbrev pub outcome_of : Delivered → Board → MessageOutcome
-outcome_of d b =
-    record {
-      answer = record { code = d.code; differ = d.differ };
-      board = of_parts (with_pairs b.head d.pairs) b.part;
-    }
+-- taken, or refused: the answer, and the board at exit
+abbrev pub outcome_of : Result ℕ Refusal → Board → MessageOutcome
+outcome_of (Ok differ) b = answered (record { code = 0; differ = differ }) b
+outcome_of (Err refusal) b = answered (record { code = number refusal; differ = 0 }) b

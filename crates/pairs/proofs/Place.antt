@@ -1,14 +1,12 @@
 -- The place of a pair in a pair table: found by halving, and where it shows that the pair is listed.
 use mathlib.Core.Path.{◌≡◌, sym, ap, ap₂, ◌∙◌, subst₂}
-use mathlib.Core.Logic.{◌≢◌}
-use mathlib.Core.Bool.{true, false, ◌&&◌}
+use mathlib.Core.Bool.{true, ◌&&◌}
 use mathlib.Core.List.{List}
 use Prim.Native.Nat.{ℕ, ◌+◌, ◌*◌, ◌/◌, ◌%◌, ◌≤◌, ◌<◌}
 use native.Mathlib.Omega.{arith}
 use native.Mathlib.Decide.{dec_lt}
 use native.Mathlib.Nat.{mul-le-mul_right}
 use lib.Dec.{T, ltb, eqb, ltb→lt, lt→ltb, eqb→eq}
-use borrow.Author.Tests.{lt-ltb, le-ltb, eq-eqb, ne_eqb}
 use lib.Arith.{digits_lt, digits_div, digits_mod}
 use lib.ListN.{get_or}
 use Rattle.model.specs.declared.Head.{Head}
@@ -35,17 +33,6 @@ product_small n m h l = omega (arith, mul-le-mul_right m h)
 -- the number of a pair in range is small
 pub number_small : (n m u v : ℕ) → n ≤ 200 → m ≤ 60 → u < n → v < m → u * m + v < 12000
 number_small n m u v h l k b = omega (arith, digits_lt k b, product_small n m h l)
-
--- the tests of one place, as the code makes them
-module _ (pairs place u v : ℕ) (operators rides : List ℕ) where
-  pub stands_past : pairs ≤ place → false ≡ (ltb place pairs && pair_at operators rides u v place)
-  stands_past l = rw (le-ltb place pairs l)
-
-  pub stands_other : place < pairs → get_or operators place 0 ≢ u → false ≡ (ltb place pairs && pair_at operators rides u v place)
-  stands_other l n = rw (lt-ltb place pairs l, ne_eqb (get_or operators place 0) u n)
-
-  pub stands_ride : place < pairs → get_or operators place 0 ≡ u → eqb (get_or rides place 0) v ≡ (ltb place pairs && pair_at operators rides u v place)
-  stands_ride l e = rw (lt-ltb place pairs l, eq-eqb (get_or operators place 0) u e)
 
 module _ (h : Head) (operators rides : List ℕ) (ok : AcceptedPairs h operators rides) where
   abbrev number_of : ℕ → ℕ

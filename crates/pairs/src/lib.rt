@@ -10,23 +10,20 @@ ghost use Rattle.pairs.specs.Place.{FirstPlace};
 
 use model::Head;
 
-// 1 where a pair is out of range, or not after the one before it. By value, so that a loop over places has no branches.
+// A pair table that is accepted: of document 01's numbers 1, 2 and 5 none applies to it, nor 3 to its arrays.
+#[derive(Clone, Copy)]
+pub struct PairTable<'a> {
+    pub head: Head,
+    pub operators: &'a [u16],
+    pub rides: &'a [u16],
+    ghost accepted: { AcceptedPairs head operators.now rides.now },
+}
+
+// 1 where a pair is out of range, or not after the one before it. By value and with `|` and `&`, so that a loop over places has no branches.
 fn misplaced(head: Head, u0: u16, v0: u16, u: u16, v: u16) -> u16
     ensures { result ≡ bit (out_of_range head u v || not (before u0 v0 u v)) }
 {
-    if head.operators <= u {
-        return 1;
-    }
-    if head.rides <= v {
-        return 1;
-    }
-    if u0 < u {
-        return 0;
-    }
-    if u0 == u && v0 < v {
-        return 0;
-    }
-    1
+    u16::from((head.operators <= u) | (head.rides <= v) | !((u0 < u) | (u0 == u) & (v0 < v)))
 }
 
 // How many pairs are misplaced, where the first is not.
@@ -35,12 +32,9 @@ fn count_misplaced(head: Head, operators: &[u16], rides: &[u16]) -> u16
         (1 ≤ head.pairs) × (misplaced_at head operators.now rides.now 0 ≡ false) }
     ensures { result ≡ count head.pairs (misplaced_at head operators.now rides.now) }
 {
-    let pairs = head.pairs as usize;
     let mut sum = 0;
-    let mut i = 1;
-    while i < pairs {
+    for i in 1..head.pairs as usize {
         sum += misplaced(head, operators[i - 1], rides[i - 1], operators[i], rides[i]);
-        i += 1;
     }
     sum
 }
@@ -62,26 +56,6 @@ pub fn ascending(head: Head, operators: &[u16], rides: &[u16]) -> bool
     count_misplaced(head, operators, rides) == 0
 }
 
-// The first place whose pair is not before (operator, ride), by halving: pairs are in order as their numbers are.
-pub fn place_of(head: Head, operator: u16, ride: u16, operators: &[u16], rides: &[u16]) -> usize
-    requires { AcceptedPairs head operators.now rides.now × (operator < head.operators) × (ride < head.rides) }
-    ensures { FirstPlace head operators.now rides.now operator ride result }
-{
-    let m = head.rides;
-    let number = operator * m + ride;
-    let mut low = 0;
-    let mut high = head.pairs as usize;
-    while low < high {
-        let middle = low + (high - low) / 2;
-        if operators[middle] * m + rides[middle] < number {
-            low = middle + 1;
-        } else {
-            high = middle;
-        }
-    }
-    low
-}
-
 // Whether (operator, ride) stands at a place, one of the first as many as pairs.
 pub fn stands_at(
     pairs: usize,
@@ -94,20 +68,43 @@ pub fn stands_at(
     requires { (pairs ≤ length operators.now) × (pairs ≤ length rides.now) }
     ensures { result ≡ (ltb place pairs && pair_at operators.now rides.now operator ride place) }
 {
-    if pairs <= place {
-        return false;
-    }
-    if operators[place] != operator {
-        return false;
-    }
-    rides[place] == ride
+    place < pairs && operators[place] == operator && rides[place] == ride
 }
 
-// Whether (operator, ride) is listed.
-pub fn is_listed(head: Head, operator: u16, ride: u16, operators: &[u16], rides: &[u16]) -> bool
-    requires { AcceptedPairs head operators.now rides.now × (operator < head.operators) × (ride < head.rides) }
-    ensures { result ≡ listed head.pairs operators.now rides.now operator ride }
-{
-    let place = place_of(head, operator, ride, operators, rides);
-    stands_at(head.pairs as usize, place, operator, ride, operators, rides)
+impl PairTable<'_> {
+    // The first place whose pair is not before (operator, ride), by halving: pairs are in order as their numbers are.
+    pub fn place_of(self, operator: u16, ride: u16) -> usize
+        requires { (operator < self.head.operators) × (ride < self.head.rides) }
+        ensures { FirstPlace self.entry.head self.entry.operators.now self.entry.rides.now operator ride result }
+    {
+        let m = self.head.rides;
+        let number = operator * m + ride;
+        let mut low = 0;
+        let mut high = self.head.pairs as usize;
+        while low < high {
+            let middle = low + (high - low) / 2;
+            if self.operators[middle] * m + self.rides[middle] < number {
+                low = middle + 1;
+            } else {
+                high = middle;
+            }
+        }
+        low
+    }
+
+    // Whether (operator, ride) is listed.
+    pub fn is_listed(self, operator: u16, ride: u16) -> bool
+        requires { (operator < self.head.operators) × (ride < self.head.rides) }
+        ensures { result ≡ listed self.entry.head.pairs self.entry.operators.now self.entry.rides.now operator ride }
+    {
+        let place = self.place_of(operator, ride);
+        stands_at(
+            self.head.pairs as usize,
+            place,
+            operator,
+            ride,
+            self.operators,
+            self.rides,
+        )
+    }
 }

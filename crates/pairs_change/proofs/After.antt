@@ -195,7 +195,7 @@ module _ (h : Head) (operators rides : List ℕ) (ok : AcceptedPairs h operators
   told : stands ≡ cleared u v
   told = tested ∙ stands_listed h operators rides ok u v p first
 
-  pub stands_place : stands ≡ true → p < h.pairs
+  stands_place : stands ≡ true → p < h.pairs
   stands_place e = (listed_first h operators rides ok u v p first (subst T (sym e ∙ told) tt)).0
 
   module _ (n : ℕ) (counted : n ≡ count_after h.pairs stands to) where
@@ -209,20 +209,24 @@ module _ (h : Head) (operators rides : List ℕ) (ok : AcceptedPairs h operators
         go false true e f c = less (omega (arith, stands_place (sym f))) (sym e) (subst T (f ∙ told) tt)
         go false false e f c = same (omega arith) (sym (f ∙ told) ∙ e)
 
-    pub count_next : n ≤ h.pairs + 1
+    count_next : n ≤ h.pairs + 1
     count_next = by_case (λ e t l. omega arith) (λ e t l. omega arith) (λ e l. omega arith)
 
-    pub count_fits : n ≤ pair_places h
+    count_fits : n ≤ pair_places h
     count_fits =
         let full = pairs_fit h operators rides (listed h.pairs operators rides) (held h operators rides ok) in
         by_case (λ e t l. omega (arith, room h operators rides ok u v in_operators in_rides l)) (λ e t l. omega arith) (λ e l. omega arith)
 
-    pub count_place : n < h.pairs → p < h.pairs
+    count_place : n < h.pairs → p < h.pairs
     count_place b =
         by_case
         (λ e t l. absurd (let z : ⊥ = omega arith in z))
         (λ e t l. (listed_first h operators rides ok u v p first l).0)
         (λ e l. absurd (let z : ⊥ = omega arith in z))
+
+    -- the new number of pairs fits, is one more at most, and where it is less the pair stands at its place
+    pub counts_fit : (n ≤ pair_places h) × (n ≤ h.pairs + 1) × (n < h.pairs → p < h.pairs)
+    counts_fit = (count_fits, count_next, count_place)
 
     module _ (operators' rides' : List ℕ) (o : Shifted h.pairs n p u operators operators') (r : Shifted h.pairs n p v rides rides') where
       pairs_after : Pairs after n operators' rides'

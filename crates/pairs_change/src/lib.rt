@@ -7,6 +7,7 @@ ghost use Rattle.pairs.specs.Accepted.{AcceptedPairs};
 ghost use Rattle.pairs_change.specs.Change.{graph_with, count_after, Arrays};
 
 use model::Head;
+use pairs::PairTable;
 
 // The number of pairs after a grant or a withdrawal.
 fn count_of(pairs: usize, is_listed: bool, grant: bool) -> usize
@@ -14,15 +15,10 @@ fn count_of(pairs: usize, is_listed: bool, grant: bool) -> usize
     ensures { result ≡ count_after pairs is_listed grant }
 {
     if grant {
-        if is_listed {
-            return pairs;
-        }
-        return pairs + 1;
+        pairs + usize::from(!is_listed)
+    } else {
+        pairs - usize::from(is_listed)
     }
-    if is_listed {
-        return pairs - 1;
-    }
-    pairs
 }
 
 // Adds the pair to the pair arrays (a grant) or removes it (a withdrawal) where needed, and zeroes their tails; the new number of pairs.
@@ -44,7 +40,12 @@ pub fn change(
 {
     let places = head.operators as usize * head.rides as usize;
     let pairs = head.pairs as usize;
-    let place = pairs::place_of(head, operator, ride, operators, rides);
+    let table = PairTable {
+        head,
+        operators,
+        rides,
+    };
+    let place = table.place_of(operator, ride);
     let stands = pairs::stands_at(pairs, place, operator, ride, operators, rides);
     let count = count_of(pairs, stands, grant);
     pairs_shift::shift(operators, place, operator, pairs, count);

@@ -9,14 +9,8 @@ fn insert(array: &mut [u16], place: usize, n: usize, word: u16)
     requires { (place ≤ n) × (n < length array.old) }
     ensures { Inserted place n word array.old array.new }
 {
-    let mut carried = word;
-    let mut i = place;
-    while i <= n {
-        let next = array[i];
-        array[i] = carried;
-        carried = next;
-        i += 1;
-    }
+    array[n] = word;
+    array[place..n + 1].rotate_right(1);
 }
 
 // Removes the word at a place of the first n words; each word behind it moves down by one place.
@@ -24,11 +18,7 @@ fn remove(array: &mut [u16], place: usize, n: usize)
     requires { (place < n) × (n ≤ length array.old) }
     ensures { Removed place n array.old array.new }
 {
-    let mut i = place;
-    while i + 1 < n {
-        array[i] = array[i + 1];
-        i += 1;
-    }
+    array[place..n].rotate_left(1);
 }
 
 // Inserts a word where the number of pairs rises to count, and removes the one at the place where it falls.
@@ -42,10 +32,7 @@ pub fn shift(array: &mut [u16], place: usize, word: u16, pairs: usize, count: us
 {
     if pairs < count {
         insert(array, place, pairs, word);
-        return;
+    } else if count < pairs {
+        remove(array, place, pairs);
     }
-    if pairs == count {
-        return;
-    }
-    remove(array, place, pairs);
 }

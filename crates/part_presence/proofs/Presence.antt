@@ -12,16 +12,10 @@ use Rattle.model.specs.Layout.{PresenceStamps, PresenceRevisions, Presence, Boar
 use Rattle.model.specs.Contents.{Entry, gives, later, slot, entry, contents, ride_place, entry_at}
 use Rattle.model.specs.Refusal.{refused_10}
 use Rattle.model.proofs.Count.{bit_test}
-use Rattle.model.proofs.Refusal.{slot_operator, slot_ride, by_kind, Within}
+use Rattle.model.proofs.Refusal.{by_kind, Within}
 use Rattle.part_presence.specs.Presence.{node_place}
 
 module _ (h : Head) (m : Message) where
-  pub operator_place : 3 ≤ m.kind → m.kind ≤ 4 → m.operator ≡ node_place h (slot m)
-  operator_place l k = sym (ap (node_place h) (slot_operator m l k))
-
-  pub ride_at : 5 ≤ m.kind → ride_place h m.ride ≡ node_place h (slot m)
-  ride_at l = sym (ap (node_place h) (slot_ride m l))
-
   -- in range it has a place
   pub place_within : 3 ≤ m.kind → Within h (slot m) → node_place h (slot m) < mark_places h
   place_within l =

@@ -2,62 +2,66 @@
 // the message is later than its last, and the store of a taken message.
 #![tactic(auto)]
 
-ghost use Rattle.std.specs.Prelude.{◌≡◌, List, ℕ, ◌≤◌, ◌<◌, length, set};
+ghost use Rattle.std.specs.Prelude.{◌≡◌, ◌≤◌, ◌<◌, length, set};
 ghost use Rattle.model.specs.Count.{bit};
-ghost use Rattle.model.specs.Layout.{lent, mark_places};
+ghost use Rattle.model.specs.Layout.{mark_places};
 ghost use Rattle.model.specs.Contents.{giving, slot};
 ghost use Rattle.model.specs.Refusal.{refused_10};
+ghost use Rattle.message_order.specs.Slot.{slot_is};
+ghost use Rattle.part_board.specs.Lent.{ref_board};
 ghost use Rattle.arrays.specs.Filled.{filled};
 ghost use Rattle.part_presence.specs.Presence.{node_place};
 
+use message_order::Slot;
 use model::{Head, Message};
+use part_board::BoardRef;
 
 // Sets everybody on and in, with stamp and revision 0.
 pub fn set_all(head: Head, stamps: &mut [u32], revisions: &mut [u16], presence: &mut [u16])
-    requires { (mark_places head ≤ length stamps.old) × (mark_places head ≤ length revisions.old) × (mark_places head ≤ length presence.old) }
-    ensures { (stamps.new ≡ filled 0 (mark_places head) 0 stamps.old) ×
-        (revisions.new ≡ filled 0 (mark_places head) 0 revisions.old) ×
-        (presence.new ≡ filled 0 (mark_places head) 1 presence.old) }
+    requires stamps { mark_places head ≤ length stamps.old }
+    requires revisions { mark_places head ≤ length revisions.old }
+    requires words { mark_places head ≤ length presence.old }
+    ensures stamps { stamps.new ≡ filled 0 (mark_places head) 0 stamps.old }
+    ensures revisions { revisions.new ≡ filled 0 (mark_places head) 0 revisions.old }
+    ensures words { presence.new ≡ filled 0 (mark_places head) 1 presence.old }
 {
     let nodes = head.operators as usize + head.rides as usize;
-    arrays::fill_stamps(stamps, 0, nodes, 0);
+    arrays::fill(stamps, 0, nodes, 0);
     arrays::fill(revisions, 0, nodes, 0);
     arrays::fill(presence, 0, nodes, 1);
 }
 
-// The place of a message's operator, or of its ride.
-fn place(head: Head, message: Message) -> usize
-    requires { 3 ≤ message.kind }
-    ensures { result ≡ node_place head (slot message) }
+// The place of an operator or ride; a pair has none.
+fn place(head: Head, slot: Slot) -> usize
+    ensures { result ≡ node_place head (slot_is slot) }
 {
-    if message.kind <= 4 {
-        return message.operator as usize;
+    match slot {
+        Slot::Pair { .. } => 0,
+        Slot::Operator(operator) => operator as usize,
+        Slot::Ride(ride) => head.operators as usize + ride as usize,
     }
-    head.operators as usize + message.ride as usize
 }
 
 // Whether a message for an operator or ride in range is not later than its last.
-pub fn not_later(
-    head: Head,
-    message: Message,
-    stamps: &[u32],
-    revisions: &[u16],
-    presence: &[u16],
-) -> bool
-    requires { (3 ≤ message.kind) × (node_place head (slot message) < length stamps.now) × (node_place head (slot message) < length revisions.now) ×
-        (node_place head (slot message) < length presence.now) }
-    ensures { (operators rides stamps' revisions' index : List ℕ) → result ≡ refused_10
-        (lent head operators rides stamps' revisions' index stamps.now revisions.now presence.now) message }
+pub fn not_later(board: BoardRef<'_>, message: Message) -> bool
+    requires kind { 3 ≤ message.kind }
+    requires stamps { node_place board.head (slot message) < length board.presence_stamps.now }
+    requires revisions { node_place board.head (slot message) < length board.presence_revisions.now }
+    requires words { node_place board.head (slot message) < length board.presence.now }
+    ensures { result ≡ refused_10 (ref_board board.entry) message }
 {
-    let at = place(head, message);
-    !message_order::is_later(message, stamps[at], revisions[at], presence[at] == 1)
+    let at = place(board.head, Slot::from(message));
+    let stamp = board.presence_stamps[at];
+    let revision = board.presence_revisions[at];
+    let word = board.presence[at];
+    !message_order::is_later(message, stamp, revision, word == 1)
 }
 
 // The word of a kind: 1 where it gives, else 0.
 fn word(kind: u16) -> u16
     ensures { result ≡ bit (giving kind) }
 {
-    if message_order::gives(kind) { 1 } else { 0 }
+    u16::from(message_order::gives(kind))
 }
 
 // Stores the stamp, the revision and the word of a taken message for an operator or ride.
@@ -68,13 +72,14 @@ pub fn store(
     revisions: &mut [u16],
     presence: &mut [u16],
 )
-    requires { (3 ≤ message.kind) × (node_place head (slot message) < length stamps.old) × (node_place head (slot message) < length revisions.old) ×
-        (node_place head (slot message) < length presence.old) }
-    ensures { (stamps.new ≡ set stamps.old (node_place head (slot message)) message.stamp) ×
-        (revisions.new ≡ set revisions.old (node_place head (slot message)) message.revision) ×
-        (presence.new ≡ set presence.old (node_place head (slot message)) (bit (giving message.kind))) }
+    requires stamps { node_place head (slot message) < length stamps.old }
+    requires revisions { node_place head (slot message) < length revisions.old }
+    requires words { node_place head (slot message) < length presence.old }
+    ensures stamps { stamps.new ≡ set stamps.old (node_place head (slot message)) message.stamp }
+    ensures revisions { revisions.new ≡ set revisions.old (node_place head (slot message)) message.revision }
+    ensures words { presence.new ≡ set presence.old (node_place head (slot message)) (bit (giving message.kind)) }
 {
-    let at = place(head, message);
+    let at = place(head, Slot::from(message));
     stamps[at] = message.stamp;
     revisions[at] = message.revision;
     presence[at] = word(message.kind);

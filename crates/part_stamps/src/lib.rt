@@ -10,6 +10,7 @@ ghost use Rattle.pairs.specs.Accepted.{AcceptedPairs};
 ghost use Rattle.part_stamps.specs.Stamps.{Stamped, start_stamps};
 
 use model::{Head, Message};
+use pairs::PairTable;
 
 // The place of a pair's stamp, and of its revision.
 fn place(head: Head, operator: u16, ride: u16) -> usize
@@ -19,64 +20,51 @@ fn place(head: Head, operator: u16, ride: u16) -> usize
 }
 
 // Stamps the listed pairs, where all stamps are 0.
-fn stamp_pairs(head: Head, operators: &[u16], rides: &[u16], start: u32, stamps: &mut [u32])
-    requires accepted_pairs { AcceptedPairs head operators.now rides.now × (pair_places head ≤ length stamps.old) }
-    requires by_index { (k : ℕ) → k < pair_places head → get_or stamps.old k 0 ≡ 0 }
-    ensures { Stamped (listed head.pairs operators.now rides.now) head.operators head.rides start stamps.old
+fn stamp_pairs(table: PairTable<'_>, start: u32, stamps: &mut [u32])
+    requires places { pair_places table.head ≤ length stamps.old }
+    requires by_index { (k : ℕ) → k < pair_places table.head → get_or stamps.old k 0 ≡ 0 }
+    ensures { Stamped (listed table.entry.head.pairs table.entry.operators.now table.entry.rides.now)
+        table.entry.head.operators table.entry.head.rides start stamps.old
         stamps.new }
 {
-    let pairs = head.pairs as usize;
-    let mut k = 0;
-    while k < pairs {
-        let at = place(head, operators[k], rides[k]);
+    for k in 0..table.head.pairs as usize {
+        let at = place(table.head, table.operators[k], table.rides[k]);
         stamps[at] = start;
-        k += 1;
     }
 }
 
 // Sets the stamps of a build.
-pub fn fill(head: Head, operators: &[u16], rides: &[u16], start: u32, stamps: &mut [u32])
-    requires { AcceptedPairs head operators.now rides.now × (pair_places head ≤ length stamps.old) }
-    ensures { stamps.new ≡ over (start_stamps (graph head operators.now rides.now) start) stamps.old }
+pub fn fill(table: PairTable<'_>, start: u32, stamps: &mut [u32])
+    requires { pair_places table.head ≤ length stamps.old }
+    ensures { stamps.new ≡ over (start_stamps (graph table.entry.head table.entry.operators.now table.entry.rides.now) start) stamps.old }
 {
-    let places = head.operators as usize * head.rides as usize;
-    arrays::fill_stamps(stamps, 0, places, 0);
-    stamp_pairs(head, operators, rides, start, stamps);
+    let places = table.head.operators as usize * table.head.rides as usize;
+    arrays::fill(stamps, 0, places, 0);
+    stamp_pairs(table, start, stamps);
 }
 
 // Whether a listed pair has stamp 0.
-pub fn missing(head: Head, operators: &[u16], rides: &[u16], stamps: &[u32]) -> bool
-    requires { AcceptedPairs head operators.now rides.now × (pair_places head ≤ length stamps.now) }
+pub fn missing(table: PairTable<'_>, stamps: &[u32]) -> bool
+    requires { pair_places table.head ≤ length stamps.now }
     ensures { (revisions index stamps' revisions' presence : List ℕ) →
-        result ≡ refused_6 (lent head operators.now rides.now stamps.now revisions index stamps' revisions' presence) }
+        result ≡ refused_6 (lent table.entry.head table.entry.operators.now table.entry.rides.now stamps.now revisions index stamps' revisions' presence) }
 {
-    let pairs = head.pairs as usize;
-    let mut i = 0;
-    while i < pairs {
-        let at = place(head, operators[i], rides[i]);
-        if stamps[at] == 0 {
+    for k in 0..table.head.pairs as usize {
+        if stamps[place(table.head, table.operators[k], table.rides[k])] == 0 {
             return true;
         }
-        i += 1;
     }
     false
 }
 
 // Whether a message for a pair in range is not later than the pair's last. Only where it decides is the pair looked up.
-pub fn not_later(
-    head: Head,
-    message: Message,
-    operators: &[u16],
-    rides: &[u16],
-    stamps: &[u32],
-    revisions: &[u16],
-) -> bool
-    requires { AcceptedPairs head operators.now rides.now × (pair_places head ≤ length stamps.now) × (pair_places head ≤ length revisions.now) ×
-        (message.operator < head.operators) × (message.ride < head.rides) × (message.kind ≤ 2) }
+pub fn not_later(table: PairTable<'_>, message: Message, stamps: &[u32], revisions: &[u16]) -> bool
+    requires { (pair_places table.head ≤ length stamps.now) × (pair_places table.head ≤ length revisions.now) ×
+        (message.operator < table.head.operators) × (message.ride < table.head.rides) × (message.kind ≤ 2) }
     ensures { (index stamps' revisions' presence : List ℕ) → result ≡ refused_10
-        (lent head operators.now rides.now stamps.now revisions.now index stamps' revisions' presence) message }
+        (lent table.entry.head table.entry.operators.now table.entry.rides.now stamps.now revisions.now index stamps' revisions' presence) message }
 {
-    let at = place(head, message.operator, message.ride);
+    let at = place(table.head, message.operator, message.ride);
     let stamp = stamps[at];
     let revision = revisions[at];
     if !message_order::is_later(message, stamp, revision, true) {
@@ -85,7 +73,7 @@ pub fn not_later(
     if message_order::is_later(message, stamp, revision, false) {
         return false;
     }
-    !pairs::is_listed(head, message.operator, message.ride, operators, rides)
+    !table.is_listed(message.operator, message.ride)
 }
 
 // Stores the stamp and the revision of a taken message for a pair.

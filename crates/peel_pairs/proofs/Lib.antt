@@ -1,3 +1,4 @@
 pub mod Same
 pub mod Marked
 pub mod Whole
+pub mod Settled

@@ -35,7 +35,7 @@ module _ (g : Graph) (h : Head) (d d' marks : List ℕ) (ready : Ready g h d d' 
             subst (λ (n : ℕ). Held g limit n s.rides s.degrees limits marks) (sym o.operators)
             (subst (λ (c : ℕ). Held g limit h.operators c s.degrees limits marks) (sym o.rides)
             (subst (λ (z : List ℕ). Held g limit h.operators h.rides z limits marks) (sym o.degrees_are) held));
-        next = o.next ∙ next_short g limit t.by_ride.wide t.by_operator.wide h.operators h.rides all limits marks held;
+        next = next_short g limit t.by_ride.wide t.by_operator.wide h.operators h.rides all limits marks held s.next o.next;
       }
 
 -- a run from the first state gives what the definition gives

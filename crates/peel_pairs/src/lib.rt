@@ -6,7 +6,6 @@ ghost use Rattle.model.specs.Count.{bit};
 ghost use Rattle.model.specs.Graph.{Graph, settled};
 ghost use Rattle.model.specs.Layout.{counting_graph, mark_places};
 ghost use Rattle.model.specs.Calls.{peeled, peel_limits};
-ghost use Rattle.pairs.specs.Accepted.{AcceptedPairs};
 ghost use Rattle.graph_tables.specs.Table.{Tables, ZeroTables};
 ghost use Rattle.limits.specs.Limits.{limit_of};
 ghost use Rattle.peel_run.specs.Steps.{StateOf};
@@ -14,18 +13,14 @@ ghost use Rattle.peel_pairs.specs.Peel.{Ready, Gives};
 
 use graph_degrees::Degrees;
 use model::{Head, Peeled};
+use pairs::PairTable;
 use peel_run::State;
 
 // 1 (settled) where nobody falls short, else 0 (unsettled).
 fn is_settled(state: State) -> u16
-    requires { state.operators + state.rides ≤ 260 }
     ensures { (g : Graph) (limit : ℕ → ℕ) (limits marks : List ℕ) → StateOf g limit state limits marks → result ≡ bit (settled g limit marks) }
 {
-    if state.next < state.operators + state.rides {
-        0
-    } else {
-        1
-    }
+    u16::from(state.next.is_none())
 }
 
 // Peel: clears marks, each time the lowest operator that falls short of its limit, else the lowest ride, in at most the allowed steps.
@@ -58,9 +53,7 @@ fn peel_tables(
 
 // Peels under the limits (alpha, beta) with minimums those pairs that count, over tables of zeros and room for the limits.
 pub fn peel_over(
-    head: Head,
-    operators: &[u16],
-    rides: &[u16],
+    table: PairTable<'_>,
     presence: &[u16],
     minimums: &[u16],
     by_operator: &mut [u8],
@@ -71,19 +64,19 @@ pub fn peel_over(
     beta: u16,
     steps: u16,
 ) -> Peeled
-    requires { AcceptedPairs head operators.now rides.now ×
-        (mark_places head ≤ length presence.now) ×
-        (head.rides ≤ length minimums.now) ×
+    requires { (mark_places table.head ≤ length presence.now) ×
+        (table.head.rides ≤ length minimums.now) ×
         ZeroTables by_operator.old by_ride.old ×
-        (mark_places head ≤ length limits.old) ×
-        (mark_places head ≤ length marks.old) }
+        (mark_places table.head ≤ length limits.old) ×
+        (mark_places table.head ≤ length marks.old) }
     ensures { Gives
-        (peeled (counting_graph head operators.now rides.now presence.now)
-        (peel_limits head presence.now minimums.now alpha beta) steps marks.old)
+        (peeled (counting_graph table.entry.head table.entry.operators.now table.entry.rides.now presence.now)
+        (peel_limits table.entry.head presence.now minimums.now alpha beta) steps marks.old)
         result marks.new }
 {
+    let head = table.head;
     let here = graph_degrees::present_and_marked(head, presence, marks);
-    let degrees = graph_degrees::tabulate(head, operators, rides, &here, by_operator, by_ride);
+    let degrees = graph_degrees::tabulate(table, &here, by_operator, by_ride);
     limits::fill(head, presence, minimums, alpha, beta, limits);
     peel_tables(head, by_operator, by_ride, degrees, limits, marks, steps)
 }

@@ -1,28 +1,25 @@
 -- Laws of a step: where to look on after a node was dropped, and who is dropped next.
-use mathlib.Core.Path.{◌≡◌, refl, sym, ap, ◌∙◌, subst}
-use mathlib.Core.Bool.{Bool}
+use mathlib.Core.Path.{◌≡◌, refl, sym, subst}
 use mathlib.Core.List.{List}
 use Prim.Native.Nat.{ℕ, ◌+◌, ◌≤◌, ◌<◌}
 use native.Mathlib.Omega.{arith}
+use Rattle.std.specs.Prelude.{Option}
 use lib.Dec.{T}
 use lib.ListN.{set}
 use Rattle.model.specs.Count.{lowest}
 use Rattle.model.specs.Graph.{Graph, nodes, short}
-use Rattle.model.proofs.Count.{lowest_least, lowest_le}
-use Rattle.graph_drops.specs.Drop.{lacks, looked_from, Held, NodeDropped}
+use Rattle.model.proofs.Count.{lowest_least}
+use Rattle.graph_drops.specs.Drop.{lacks, IsLowest, looked_from, Held, NodeDropped}
 use Rattle.graph_drops.proofs.Drop.{dropped}
 use Rattle.graph_drops.proofs.Lacking.{lowest_lacking, looked_passed, looked_inside}
 use Rattle.peel_run.specs.declared.State.{State}
 use Rattle.peel_run.specs.Steps.{Lowered, Stepped}
 
-pub next_le : (r k : ℕ) (p : ℕ → Bool) → r ≡ lowest k p → r ≤ k
-next_le r k p e = omega (arith, lowest_le p k)
-
 -- the lowest whose degree is below its limit in bytes is the lowest that falls short
-pub next_short : (g : Graph) (limit : ℕ → ℕ) → g.operators ≤ 200 → g.rides ≤ 60 → (n c : ℕ) (degrees limits marks : List ℕ) → Held g limit n c degrees limits marks → lowest (n + c) (lacks degrees limits) ≡ lowest (nodes g) (short g limit marks)
-next_short g limit few few' n c degrees limits marks held =
+pub next_short : (g : Graph) (limit : ℕ → ℕ) → g.operators ≤ 200 → g.rides ≤ 60 → (n c : ℕ) (degrees limits marks : List ℕ) → Held g limit n c degrees limits marks → (r : Option ℕ) → IsLowest r (n + c) (lowest (n + c) (lacks degrees limits)) → IsLowest r (nodes g) (lowest (nodes g) (short g limit marks))
+next_short g limit few few' n c degrees limits marks held r low =
     let e : n + c ≡ nodes g = omega (arith, held.remaining.operators_are, held.remaining.rides_are) in
-    ap (λ (k : ℕ). lowest k (lacks degrees limits)) e ∙ lowest_lacking g few few' limit n c degrees limits marks held
+    subst (IsLowest r (nodes g)) (lowest_lacking g few few' limit n c degrees limits marks held) (subst (λ (k : ℕ). IsLowest r k (lowest k (lacks degrees limits))) e low)
 
 -- x, the lowest that fell short, was dropped
 module _ (g : Graph) (limit : ℕ → ℕ) (few : g.operators ≤ 200) (few' : g.rides ≤ 60) (n c : ℕ) (marks : List ℕ) (x : ℕ) (e : x ≡ lowest (nodes g) (short g limit marks)) (h : x < nodes g) (degrees limits marks' : List ℕ) (d : NodeDropped g limit n c marks x degrees limits marks') where
@@ -41,10 +38,7 @@ module _ (g : Graph) (limit : ℕ → ℕ) (few : g.operators ≤ 200) (few' : g
   )
 
 -- the mark and the limit of the next node cleared
-module _ (g : Graph) (limit : ℕ → ℕ) (s : State) (limits marks : List ℕ) (o : Lowered g limit s limits marks) (h : s.next < s.operators + s.rides) where
-  abbrev x : ℕ
-  x = s.next
-
+module _ (g : Graph) (limit : ℕ → ℕ) (s : State) (x : ℕ) (limits marks : List ℕ) (o : Lowered g limit s x limits marks) (h : x < s.operators + s.rides) where
   inside : x < nodes g
   inside = omega (arith, o.remaining.operators_are, o.remaining.rides_are)
 
@@ -54,7 +48,7 @@ module _ (g : Graph) (limit : ℕ → ℕ) (s : State) (limits marks : List ℕ)
   pub next_looked : (from : ℕ) → from ≡ looked_from s.degrees (set limits x 0) s.operators x → (from ≤ s.operators + s.rides) × (s.operators + s.rides ≤ 260) × ((y : ℕ) → y < from → T (lacks s.degrees (set limits x 0) y) → ⊥)
   next_looked = next_from g limit o.few_operators o.few_rides s.operators s.rides marks x o.next inside s.degrees (set limits x 0) (set marks x 0) next_dropped
 
-  pub stepped : (r : State) → r.degrees ≡ s.degrees → r.operators ≡ s.operators → r.rides ≡ s.rides → r.steps ≡ s.steps + 1 → r.next ≡ lowest (s.operators + s.rides) (lacks s.degrees (set limits x 0)) → Stepped g limit s marks r (set limits x 0) (set marks x 0)
+  pub stepped : (r : State) → r.degrees ≡ s.degrees → r.operators ≡ s.operators → r.rides ≡ s.rides → r.steps ≡ s.steps + 1 → IsLowest r.next (s.operators + s.rides) (lowest (s.operators + s.rides) (lacks s.degrees (set limits x 0))) → Stepped g limit s x marks r (set limits x 0) (set marks x 0)
   stepped r d e f k l =
       record {
         steps = k;
@@ -64,6 +58,6 @@ module _ (g : Graph) (limit : ℕ → ℕ) (s : State) (limits marks : List ℕ)
               subst (λ (n : ℕ). Held g limit n r.rides r.degrees (set limits x 0) (set marks x 0)) (sym e)
               (subst (λ (c : ℕ). Held g limit s.operators c r.degrees (set limits x 0) (set marks x 0)) (sym f)
               (subst (λ (z : List ℕ). Held g limit s.operators s.rides z (set limits x 0) (set marks x 0)) (sym d) next_dropped.held));
-          next = l ∙ next_short g limit o.few_operators o.few_rides s.operators s.rides s.degrees (set limits x 0) (set marks x 0) next_dropped.held;
+          next = next_short g limit o.few_operators o.few_rides s.operators s.rides s.degrees (set limits x 0) (set marks x 0) next_dropped.held r.next l;
         };
       }

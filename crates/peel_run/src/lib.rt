@@ -9,17 +9,18 @@ ghost use Rattle.peel_run.specs.Steps.{Started, StateOf, Lowered, Stepped};
 ghost use Rattle.peel_run.specs.Run.{Ran};
 
 use graph_drops::{look_from, lowest_short, subtract_row};
+use graph_tables::ClearanceTables;
 use model::Head;
 
 // The state of a peel: the remaining degree of every node (operators first, then rides; 0 where it wasn't marked at the start), the sizes, the steps
-// taken, and the node that is dropped next: the lowest that falls short, or the number of nodes where nobody does.
+// taken, and the node that is dropped next: the lowest that falls short, if one does.
 #[derive(Clone, Copy)]
 pub struct State {
     pub degrees: [u8; 260],
     pub operators: u16,
     pub rides: u16,
     pub steps: u16,
-    pub next: u16,
+    pub next: Option<u16>,
 }
 
 impl State {
@@ -31,35 +32,33 @@ impl State {
         let nodes = head.operators as usize + head.rides as usize;
         let next = lowest_short(&degrees, limits, 0, nodes);
         State {
-            degrees: degrees,
+            degrees,
             operators: head.operators,
             rides: head.rides,
             steps: 0,
-            next: next as u16,
+            next: next.map(|x| x as u16),
         }
     }
 
-    // The next state, after the row of the next node was subtracted: its mark is cleared, the step counted, and the lowest that now falls short found.
-    // After an operator nobody below it can have come to fall short; after a ride an operator may have.
-    pub fn step(self, limits: &mut [u8; 260], marks: &mut [u16]) -> State
-        requires { ((g : Graph) × (limit : ℕ → ℕ) × Lowered g limit self limits.old marks.old) × (self.next < self.operators + self.rides) × (self.steps < 65535) }
-        ensures { (g : Graph) (limit : ℕ → ℕ) → Lowered g limit self limits.old marks.old →
-            Stepped g limit self marks.old result limits.new marks.new }
+    // The next state, after the row of the next node, x, was subtracted: its mark is cleared, the step counted, and the lowest that now falls short
+    // found. After an operator nobody below it can have come to fall short; after a ride an operator may have.
+    pub fn step(self, x: usize, limits: &mut [u8; 260], marks: &mut [u16]) -> State
+        requires { ((g : Graph) × (limit : ℕ → ℕ) × Lowered g limit self x limits.old marks.old) × (x < self.operators + self.rides) × (self.steps < 65535) }
+        ensures { (g : Graph) (limit : ℕ → ℕ) → Lowered g limit self x limits.old marks.old →
+            Stepped g limit self x marks.old result limits.new marks.new }
     {
         let operators = self.operators as usize;
-        let rides = self.rides as usize;
-        let x = self.next as usize;
+        let nodes = operators + self.rides as usize;
         limits[x] = 0;
         marks[x] = 0;
         let degrees = self.degrees;
         let from = look_from(&degrees, limits, operators, x);
-        let next = lowest_short(&degrees, limits, from, operators + rides);
+        let next = lowest_short(&degrees, limits, from, nodes);
         State {
-            degrees: degrees,
-            operators: self.operators,
-            rides: self.rides,
+            degrees,
             steps: self.steps + 1,
-            next: next as u16,
+            next: next.map(|x| x as u16),
+            ..self
         }
     }
 }
@@ -79,24 +78,21 @@ pub fn run(
         StateOf g limit first limits.old marks.old →
         Ran g limit allowed marks.old result limits.new marks.new }
 {
-    let operators = first.operators as usize;
-    let rides = first.rides as usize;
+    let tables = ClearanceTables {
+        operators: first.operators as usize,
+        rides: first.rides as usize,
+        by_operator,
+        by_ride,
+    };
     let mut state = first;
     while state.steps < allowed {
-        let x = state.next as usize;
-        if operators + rides <= x {
+        let Some(x) = state.next else {
             return state;
-        }
+        };
+        let x = x as usize;
         // In the state's own array, and not in one that the step hands on: the state is copied once a step so.
-        subtract_row(
-            operators,
-            rides,
-            by_operator,
-            by_ride,
-            &mut state.degrees,
-            x,
-        );
-        state = state.step(limits, marks);
+        subtract_row(tables, &mut state.degrees, x);
+        state = state.step(x, limits, marks);
     }
     state
 }

@@ -10,14 +10,7 @@ use Rattle.model.specs.Count.{bit, count}
 use Rattle.model.specs.Graph.{present}
 use Rattle.model.proofs.Count.{test_false, and_right, bit_le, count_le, count_more, count_none, count_zero, count_ext}
 use Rattle.model.proofs.Store.{stored, getD_zeros}
-use Rattle.arrays.specs.Filled.{filled}
-use Rattle.arrays.proofs.Filled.{filled_at}
-use Rattle.query_sides.specs.Marked.{Marked}
-
--- the marks below i are those of a test, and r of them are 1
-pub record Upto (test : ℕ → Bool) (i r : ℕ) (marks : List ℕ) : Type 0 where
-  pub marks_are : (k : ℕ) → k < i → get_or marks k 0 ≡ bit (test k)
-  pub counted : r ≡ count i test
+use Rattle.query_sides.specs.Marked.{Upto, Marked}
 
 module _ (test : ℕ → Bool) (marks : List ℕ) where
   pub upto_none : Upto test 0 0 marks
@@ -45,12 +38,12 @@ upto_marked levels presence least i r marks test e same u =
     }
 
 -- from level 1 on nobody is marked whose level is 0
-pub none_marked : (presence marks words : List ℕ) (least : ℕ) → length marks ≡ length presence → 1 ≤ least → words ≡ filled 0 (length marks) 0 marks → Marked (replicate (length presence) 0) presence least 0 words
-none_marked presence marks words least same l w =
+pub none_marked : (presence words : List ℕ) (least : ℕ) → 1 ≤ least → ((k : ℕ) → k < length presence → get_or words k 0 ≡ 0) → Marked (replicate (length presence) 0) presence least 0 words
+none_marked presence words least l none =
     upto_marked zeros presence least n 0 words (λ k. false) (sym (length-replicate {A = ℕ} n 0))
     (λ k h. sym (test_false (present presence k && leb least (get_or zeros k 0)) (λ t. above (get_or zeros k 0) (getD_zeros n k) (and_right (present presence k) (leb least (get_or zeros k 0)) t))))
     (record {
-      marks_are = λ k h. ap (λ (z : List ℕ). get_or z k 0) w ∙ filled_at marks 0 0 (length marks) (omega arith) (omega arith) k (omega arith) (omega arith);
+      marks_are = none;
       counted = sym (count_zero (λ k. false) n (λ k h t. t));
     })
   where

@@ -1,5 +1,5 @@
 -- 6, a message's own numbers and 10, and their place behind 1 to 5.
-use mathlib.Core.Path.{◌≡◌, ap, ◌∙◌, subst}
+use mathlib.Core.Path.{◌≡◌, refl, ap, ◌∙◌, subst}
 use mathlib.Core.Logic.{◌≢◌}
 use mathlib.Core.Bool.{Bool, true, false, ◌||◌}
 use mathlib.Core.List.{List, [], ◌∷◌, ◌++◌}
@@ -13,8 +13,13 @@ use Rattle.model.specs.Refusal.{refused_3, refused_6, refused_10, board_short, f
 use Rattle.model.proofs.Count.{test_false, or_left}
 use Rattle.model.proofs.Chain.{last_here, last_skip, Positive, front_is, behind_is}
 use Rattle.model.proofs.Parts.{board_long}
-use Rattle.model.proofs.Refusal.{table_unrefused, positive_valid}
+use native.Mathlib.Decide.{dec_le}
+use Rattle.model.specs.Contents.{Pair, Operator, Ride, slot}
+use Rattle.model.proofs.Refusal.{table_unrefused, positive_valid, slot_pair, slot_operator, slot_ride}
 use Rattle.refusal_table.proofs.Chain.{table_first, table_rest, table_accepted}
+use Rattle.message_order.specs.declared.Slot.{Slot as LentSlot}
+use Rattle.message_order.specs.declared.Slot.TheVariants.{Pair as LentPair, Operator as LentOperator, Ride as LentRide}
+use Rattle.message_order.specs.Slot.{slot_is}
 use Rattle.refusal_message.specs.Ready.{Ready}
 use Rattle.refusal_message.specs.Room.{Room}
 
@@ -43,6 +48,28 @@ board_room b short long e =
     let u = (table_unrefused b.head short (b.part Operators) (b.part Rides) (six b) e).0 in
     let l = long (test_false short u.long) in
     record { pairs = table_accepted b.head short (b.part Operators) (b.part Rides) u (l Operators) (l Rides); long = λ p t. l p }
+
+-- ---- the kinds of a slot
+
+-- only the kinds 1 and 2 speak of a pair
+pub pair_kind : (m : Message) (u v : ℕ) → Pair u v ≡ slot m → m.kind ≤ 2
+pair_kind m u v e =
+    elim (dec_le m.kind 2) [
+      | yes k ↦ k
+      | no k ↦
+          elim (dec_le m.kind 4) [
+            | yes l ↦ absurd (let z : Pair u v ≡ Operator m.operator = e ∙ slot_operator m (omega arith) l in let y : ⊥ = cc in y)
+            | no l ↦ absurd (let z : Pair u v ≡ Ride m.ride = e ∙ slot_ride m (omega arith) in let y : ⊥ = cc in y)
+          ]
+    ]
+
+-- and they speak of nothing else
+pub other_kind : (m : Message) (s : LentSlot) → slot_is s ≡ slot m → ((u v : ℕ) → s ≡ LentPair u v → ⊥) → 3 ≤ m.kind
+other_kind m (LentPair u v) e n = absurd (n u v refl)
+other_kind m (LentOperator u) e n =
+    elim (dec_le m.kind 2) [ yes k ↦ absurd (let z : Operator u ≡ Pair m.operator m.ride = e ∙ slot_pair m k in let y : ⊥ = cc in y) | no k ↦ omega arith ]
+other_kind m (LentRide v) e n =
+    elim (dec_le m.kind 2) [ yes k ↦ absurd (let z : Ride v ≡ Pair m.operator m.ride = e ∙ slot_pair m k in let y : ⊥ = cc in y) | no k ↦ omega arith ]
 
 -- ---- all of a message's numbers
 
@@ -87,9 +114,7 @@ module _ (b : Board) (short : Bool) where
   list_of messages answers e = ap (λ (t : Bool). first_number (board_cases b t)) e
 
 -- a board with such room is ready
-pub room_ready :
-    {b : Board} → Room b →
-    Ready b.head (b.part Operators) (b.part Rides) (b.part Stamps) (b.part Revisions) (b.part PresenceStamps) (b.part PresenceRevisions) (b.part Presence)
+pub room_ready : {b : Board} → Room b → Ready b
 room_ready r = record {
   pairs = r.pairs;
   stamps_long = r.long Stamps tt;

@@ -1,17 +1,21 @@
 -- The numbers of a peel or a cover, test by test: 3, and 12 behind those of a pair table.
-use mathlib.Core.Path.{◌≡◌, sym, ap, ◌∙◌}
+use mathlib.Core.Path.{◌≡◌, sym, ap, ◌∙◌, subst}
 use mathlib.Core.Logic.{◌≢◌}
 use mathlib.Core.Bool.{Bool, true, false}
 use mathlib.Core.List.{List, [], ◌∷◌, ◌++◌}
-use Prim.Native.Nat.{ℕ, ◌≤◌, ◌<◌}
-use lib.Dec.{ltb, lt→ltb}
-use borrow.Author.Tests.{lt-ltb, le-ltb}
-use lib.ListN.{length, get_or}
+use Prim.Native.Nat.{ℕ, ◌≤◌}
+use native.Mathlib.Omega.{arith}
+use lib.Dec.{T, ltb}
+use Rattle.std.specs.List.{list_any}
+use Rattle.std.proofs.lemmas.List.{get_or-take, get_or_default, length-take}
+use Rattle.std.proofs.lemmas.List.Folds.{Any-from_list_any, list_any_at}
+use Rattle.model.specs.Count.{some}
+use Rattle.model.proofs.Count.{test_true, test_ext, some_holds, some_witness}
+use lib.ListN.{length, get_or, take}
 use Rattle.model.specs.declared.Head.{Head}
-use Rattle.model.specs.Layout.{pair_places, mark_places}
-use Rattle.model.specs.Refusal.{refused_12, first_number, table_cases, peel_short, peel_cases, peel_refusal}
-use Rattle.model.proofs.Search.{some_true, some_false}
-use Rattle.model.proofs.Chain.{last_here, last_skip, not_less}
+use Rattle.model.specs.Layout.{mark_places}
+use Rattle.model.specs.Refusal.{refused_12, first_number, peel_short, peel_cases, peel_refusal}
+use Rattle.model.proofs.Chain.{last_here, last_skip}
 use Rattle.model.proofs.Refusal.{peel_lent}
 use Rattle.pairs.specs.Accepted.{AcceptedPairs}
 use Rattle.refusal_table.proofs.Chain.{table_first, table_rest, table_accepted}
@@ -23,49 +27,19 @@ lent_accepted h operators rides presence minimums marks cs e =
     (table_accepted h _ operators rides l.table l.operators_long l.rides_long, l.presence_long, l.minimums_long, l.marks_long)
 
 module _ (h : Head) (operators rides presence minimums marks : List ℕ) where
-  -- 3 of a peel
-  abbrev short_parts : Bool
-  short_parts = peel_short h operators rides presence minimums marks
-
-  -- what `short_peel` gives, part by part
-  pub short_operators : length operators < pair_places h → true ≡ short_parts
-  short_operators o = rw (lt-ltb (length operators) (pair_places h) o)
-
-  module _ (o : pair_places h ≤ length operators) where
-    pub short_rides : length rides < pair_places h → true ≡ short_parts
-    short_rides r = rw (le-ltb (length operators) (pair_places h) o, lt-ltb (length rides) (pair_places h) r)
-
-    module _ (r : pair_places h ≤ length rides) where
-      pub short_presence : length presence < mark_places h → true ≡ short_parts
-      short_presence p =
-          rw (le-ltb (length operators) (pair_places h) o, le-ltb (length rides) (pair_places h) r, lt-ltb (length presence) (mark_places h) p)
-
-      module _ (p : mark_places h ≤ length presence) where
-        pub short_minimums : length minimums < h.rides → true ≡ short_parts
-        short_minimums n =
-            rw (le-ltb (length operators) (pair_places h) o, le-ltb (length rides) (pair_places h) r, le-ltb (length presence) (mark_places h) p, lt-ltb (length minimums) h.rides n)
-
-        pub short_marks : h.rides ≤ length minimums → ltb (length marks) (mark_places h) ≡ short_parts
-        short_marks n =
-            rw (le-ltb (length operators) (pair_places h) o, le-ltb (length rides) (pair_places h) r, le-ltb (length presence) (mark_places h) p, le-ltb (length minimums) h.rides n)
-
-  -- what `short_peel` and `table_number` give
-  pub lent_table : (short : Bool) → short ≡ short_parts → (k : ℕ) → k ≡ first_number (table_cases h short operators rides) → k ≡ first_number (peel_cases h operators rides presence minimums marks)
-  lent_table short s k t = t ∙ ap (λ (b : Bool). first_number (table_cases h b operators rides)) s
-
-  -- what `lent_number` gives
+  -- what `check_lent` gives
   module _ (k : ℕ) (table : k ≡ first_number (peel_cases h operators rides presence minimums marks)) where
     abbrev behind : List (ℕ × Bool)
     behind = (12, refused_12 h marks) ∷ []
 
     pub peel_table : k ≢ 0 → k ≡ peel_refusal h operators rides presence minimums marks
     unfolding peel_refusal
-    peel_table n = table_first h short_parts operators rides behind k table n
+    peel_table n = table_first h (peel_short h operators rides presence minimums marks) operators rides behind k table n
 
     module _ (z : k ≡ 0) where
       last : first_number behind ≡ peel_refusal h operators rides presence minimums marks
       unfolding peel_refusal
-      last = table_rest h short_parts operators rides behind k table z
+      last = table_rest h (peel_short h operators rides presence minimums marks) operators rides behind k table z
 
       pub peel_12 : refused_12 h marks ≡ true → 12 ≡ peel_refusal h operators rides presence minimums marks
       peel_12 b = last_here 12 (refused_12 h marks) b ∙ last
@@ -79,11 +53,18 @@ module _ (h : Head) (operators rides presence minimums marks : List ℕ) where
 
 -- ---- 12
 
-module _ (h : Head) (marks : List ℕ) where
-  pub bad_mark : (i : ℕ) → i < mark_places h → 1 < get_or marks i 0 → true ≡ refused_12 h marks
-  unfolding refused_12
-  bad_mark i k l = some_true (λ x. ltb 1 (get_or marks x 0)) (mark_places h) i k (lt→ltb 1 (get_or marks i 0) l)
-
-  pub good_marks : ((i : ℕ) → i < mark_places h → get_or marks i 0 ≤ 1) → false ≡ refused_12 h marks
-  unfolding refused_12
-  good_marks f = some_false (λ x. ltb 1 (get_or marks x 0)) (mark_places h) (λ i k. not_less 1 (get_or marks i 0) (f i k))
+-- a mark in use is bad where one of the first marks is
+pub any_bad : (h : Head) (marks : List ℕ) → mark_places h ≤ length marks → list_any (λ (m : ℕ). ltb 1 m) (take (mark_places h) marks) ≡ refused_12 h marks
+unfolding refused_12
+any_bad h marks l =
+    let w : ℕ = mark_places h in
+    let bad : ℕ → Bool = λ m. ltb 1 m in
+    let at : ℕ → Bool = λ x. ltb 1 (get_or marks x 0) in
+    let long : length (take w marks) ≡ w = omega (arith, length-take {A = ℕ}) in
+    test_ext (list_any bad (take w marks)) (some w at)
+    (λ t.
+    let a = Any-from_list_any bad (take w marks) (test_true (list_any bad (take w marks)) t) in
+    some_holds at w a.0 (omega (arith, long, a.2)) (subst T (sym (ap bad (sym (get_or-take w marks a.0 0 (omega (arith, long, a.2))) ∙ get_or_default (take w marks) a.0 0 a.1 a.2 ∙ a.3) ∙ a.4)) tt))
+    (λ t.
+    let a = some_witness at w t in
+    subst T (sym (list_any_at bad (take w marks) a.0 0 (omega (arith, long, a.1)) (ap bad (get_or-take w marks a.0 0 a.1) ∙ test_true (at a.0) a.2))) tt)

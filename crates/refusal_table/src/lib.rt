@@ -1,133 +1,93 @@
-// Document 01's numbers of a pair table, a build and a query: the lowest that applies, 0 if none does.
+// Document 01's refusals of a pair table, a build and a query: the one of the lowest number that applies, if any does.
 #![tactic(auto)]
 
-ghost use Rattle.std.specs.Prelude.{◌≡◌, Bool, false, List, ◌∷◌, ℕ, ◌≤◌, length};
-ghost use Rattle.model.specs.Layout.{lent, pair_places};
+ghost use Rattle.std.specs.Prelude.{◌≡◌, Bool, false, List, ◌∷◌, ℕ, ◌≤◌, IfOk, length};
+ghost use Rattle.model.specs.Layout.{pair_places};
 ghost use Rattle.model.specs.Refusal.{board_short, first_number, table_cases, build_refusal, query_refusal};
+ghost use Rattle.part_board.specs.Lent.{ref_board};
+ghost use Rattle.refusal_kind.specs.Number.{number_of};
 ghost use Rattle.refusal_table.specs.Cases.{head_cases};
 
 use model::Head;
+use pairs::PairTable;
+use part_board::BoardRef;
+use refusal_kind::Refusal;
 
 // Whether a pair array, the stamps or the revisions are shorter than operators × rides, the index than its rows, or one of the parts of operators
 // and rides than operators + rides.
-pub fn short_board(
-    head: Head,
-    operators: &[u16],
-    rides: &[u16],
-    stamps: &[u32],
-    revisions: &[u16],
-    index: &[u16],
-    presence_stamps: &[u32],
-    presence_revisions: &[u16],
-    presence: &[u16],
-) -> bool
-    ensures { result
-        ≡ board_short (lent head operators.now rides.now stamps.now revisions.now index.now
-        presence_stamps.now presence_revisions.now presence.now) }
+pub fn short_board(board: BoardRef<'_>) -> bool
+    ensures { result ≡ board_short (ref_board board.entry) }
 {
-    let n = head.operators as usize;
-    let m = head.rides as usize;
+    let n = board.head.operators as usize;
+    let m = board.head.rides as usize;
     let places = n * m;
-    if operators.len() < places {
-        return true;
-    }
-    if rides.len() < places {
-        return true;
-    }
-    if stamps.len() < places {
-        return true;
-    }
-    if revisions.len() < places {
-        return true;
-    }
-    if index.len() < m * (n + m) {
-        return true;
-    }
-    if presence_stamps.len() < n + m {
-        return true;
-    }
-    if presence_revisions.len() < n + m {
-        return true;
-    }
-    if presence.len() < n + m {
-        return true;
-    }
-    false
+    board.operators.len() < places
+        || board.rides.len() < places
+        || board.stamps.len() < places
+        || board.revisions.len() < places
+        || board.index.len() < m * (n + m)
+        || board.presence_stamps.len() < n + m
+        || board.presence_revisions.len() < n + m
+        || board.presence.len() < n + m
 }
 
 // 1 to 4 of a pair table; short tells whether a lent part is too short.
-pub fn head_number(head: Head, short: bool) -> u16
-    ensures { result ≡ first_number (head_cases head short) }
+#[tactic(auto, unfolding(model::specs::Refusal::first_number))]
+pub fn check_head(head: Head, short: bool) -> Result<(), Refusal>
+    ensures { number_of result ≡ first_number (head_cases head short) }
 {
     if 200 < head.operators {
-        return 1;
+        return Err(Refusal::TooManyOperators);
     }
     if 60 < head.rides {
-        return 2;
+        return Err(Refusal::TooManyRides);
     }
     if short {
-        return 3;
+        return Err(Refusal::TooShort);
     }
     if head.operators * head.rides < head.pairs {
-        return 4;
+        return Err(Refusal::TooManyPairs);
     }
-    0
+    Ok(())
 }
 
-// 1 to 5 of a pair table; short tells whether a lent part is too short.
-pub fn table_number(head: Head, short: bool, operators: &[u16], rides: &[u16]) -> u16
-    requires { short ≡ false → (pair_places head ≤ length operators.now) × (pair_places head ≤ length rides.now) }
-    ensures { result ≡ first_number (table_cases head short operators.now rides.now) }
-{
-    let number = head_number(head, short);
-    if number != 0 {
-        return number;
-    }
-    if pairs::ascending(head, operators, rides) {
-        return 0;
-    }
-    5
-}
-
-// 1 to 5 and 9.
-pub fn build_number(
+// 1 to 5 of a pair table, or the table; short tells whether a lent part is too short.
+#[tactic(auto, using(refusal_kind::proofs::Refused::refused), unfolding(model::specs::Refusal::first_number))]
+pub fn check_table<'a>(
     head: Head,
-    operators: &[u16],
-    rides: &[u16],
-    start: u32,
-    stamps: &[u32],
-    revisions: &[u16],
-    index: &[u16],
-    presence_stamps: &[u32],
-    presence_revisions: &[u16],
-    presence: &[u16],
-) -> u16
-    ensures { result
-        ≡ build_refusal (lent head operators.now rides.now stamps.now revisions.now index.now
-        presence_stamps.now presence_revisions.now presence.now) start }
+    short: bool,
+    operators: &'a [u16],
+    rides: &'a [u16],
+) -> Result<PairTable<'a>, Refusal>
+    requires { short ≡ false → (pair_places head ≤ length operators.now) × (pair_places head ≤ length rides.now) }
+    ensures refused { number_of result ≡ first_number (table_cases head short operators.now rides.now) }
+    ensures table { IfOk result (λ t. (t.head ≡ head) × (t.operators.now ≡ operators.now) × (t.rides.now ≡ rides.now)) }
 {
-    let short = short_board(
+    check_head(head, short)?;
+    if !pairs::ascending(head, operators, rides) {
+        return Err(Refusal::BadPair);
+    }
+    Ok(PairTable {
         head,
         operators,
         rides,
-        stamps,
-        revisions,
-        index,
-        presence_stamps,
-        presence_revisions,
-        presence,
-    );
-    let number = table_number(head, short, operators, rides);
-    if number != 0 {
-        return number;
-    }
+    })
+}
+
+// 1 to 5 and 9.
+#[tactic(auto, unfolding(model::specs::Refusal::first_number, model::specs::Refusal::build_refusal))]
+pub fn check_build(board: BoardRef<'_>, start: u32) -> Result<(), Refusal>
+    ensures { number_of result ≡ build_refusal (ref_board board.entry) start }
+{
+    check_table(board.head, short_board(board), board.operators, board.rides)?;
     if start == 0 {
-        return 9;
+        return Err(Refusal::NoStamp);
     }
-    0
+    Ok(())
 }
 
 // A number where it applies, else the one that comes after it.
+#[tactic(auto, unfolding(model::specs::Refusal::first_number))]
 fn first(applies: bool, number: u16, after: u16) -> u16
     ensures { (cs : List (ℕ × Bool)) → after ≡ first_number cs → result ≡ first_number ((number, applies) ∷ cs) }
 {
@@ -138,6 +98,7 @@ fn first(applies: bool, number: u16, after: u16) -> u16
 }
 
 // 1 to 3. All are tested, without a branch between them (docs/DECISIONS.md).
+
 pub fn query_number(head: Head, index: &[u16], presence: &[u16], marks: &[u16]) -> u16
     ensures { result ≡ query_refusal head index.now presence.now marks.now }
 {

@@ -1,130 +1,55 @@
 // Replays the calls on standard input, and writes what each answered and left (reference/README.md).
 #![tactic(auto)]
 
-use replay_memory::Lent;
+use frames::{CallKind, UnknownCall, Words};
+use lent_parts::Part;
+use model::Head;
+use replay_memory::Memory;
 use std::io;
 use std::io::{Read, Write};
 
-// Makes the call of a frame, writes its answer's numbers, and answers the checksum of the head where a call changes it, or 0.
-fn call<W: Write>(
+// A frame whose first word names no call is answered as a cover with minimums if it is 0, and else as a cover for a guest count. Its parts begin where
+// those of a message list do.
+fn unknown<W: Write>(
     out: &mut W,
-    frame: &[u8],
-    lent: Lent,
-    operators: &mut [u16; 12300],
-    rides: &mut [u16; 12300],
-    stamps: &mut [u32; 12300],
-    revisions: &mut [u16; 12300],
-    index: &mut [u16; 16000],
-    presence_stamps: &mut [u32; 270],
-    presence_revisions: &mut [u16; 270],
-    presence: &mut [u16; 270],
-    minimums: &mut [u16; 70],
-    marks: &mut [u16; 270],
-    answers: &mut [u16; 70],
-) -> io::Result<u64> {
-    let kind = frames::word(frame, 0);
-    if kind < 4 || kind == 8 {
-        replay_tables::call(
-            out,
-            frame,
-            lent,
-            operators,
-            rides,
-            stamps,
-            revisions,
-            index,
-            presence_stamps,
-            presence_revisions,
-            presence,
-            minimums,
-            marks,
-        )?;
-        Ok(0)
-    } else if 5 < kind {
-        replay_crowds::call(
-            out, frame, lent, operators, rides, presence, minimums, marks,
-        )?;
-        Ok(0)
+    number: u16,
+    words: &mut Words<'_>,
+    memory: &mut Memory<'_>,
+) -> io::Result<()> {
+    let head = words.head();
+    let first = words.word();
+    memory.load(&mut words.behind(6 * usize::from(first)), None);
+    if number == 0 {
+        replay_tables::cover(out, head, first, words.word(), memory)
     } else {
-        replay_messages::call(
-            out,
-            frame,
-            lent,
-            operators,
-            rides,
-            stamps,
-            revisions,
-            index,
-            presence_stamps,
-            presence_revisions,
-            presence,
-            answers,
-        )
+        replay_crowds::cover(out, head, first, replay_crowds::table(words), memory)
     }
 }
 
-// Replays a frame, and writes its line.
-fn step<W: Write>(
+// Makes the call of a frame, writes its answer's numbers, and answers the head after it where the call has one that may change.
+fn call<W: Write>(
     out: &mut W,
-    frame: &[u8],
-    operators: &mut [u16; 12300],
-    rides: &mut [u16; 12300],
-    stamps: &mut [u32; 12300],
-    revisions: &mut [u16; 12300],
-    index: &mut [u16; 16000],
-    presence_stamps: &mut [u32; 270],
-    presence_revisions: &mut [u16; 270],
-    presence: &mut [u16; 270],
-    minimums: &mut [u16; 70],
-    marks: &mut [u16; 270],
-    answers: &mut [u16; 70],
-) -> io::Result<()> {
-    let lent = replay_memory::load(
-        frame,
-        operators,
-        rides,
-        stamps,
-        revisions,
-        index,
-        presence_stamps,
-        presence_revisions,
-        presence,
-        minimums,
-        marks,
-        answers,
-    );
-    let head = call(
-        out,
-        frame,
-        lent,
-        operators,
-        rides,
-        stamps,
-        revisions,
-        index,
-        presence_stamps,
-        presence_revisions,
-        presence,
-        minimums,
-        marks,
-        answers,
-    )?;
-    let sum = replay_memory::checksum(
-        head,
-        lent,
-        operators,
-        rides,
-        stamps,
-        revisions,
-        index,
-        presence_stamps,
-        presence_revisions,
-        presence,
-        minimums,
-        marks,
-        answers,
-    );
-    frames::print_checksum(out, sum)
+    words: &mut Words<'_>,
+    memory: &mut Memory<'_>,
+) -> io::Result<Option<Head>> {
+    match CallKind::try_from(words.word()) {
+        Ok(CallKind::Build) => replay_tables::build(out, words, memory)?,
+        Ok(CallKind::Query) => replay_tables::query(out, words, memory)?,
+        Ok(CallKind::Peel) => replay_tables::peel(out, words, memory)?,
+        Ok(CallKind::Message) => return Ok(Some(replay_messages::message(out, words, memory)?)),
+        Ok(CallKind::List) => return Ok(Some(replay_messages::list(out, words, memory)?)),
+        Ok(CallKind::LookUp) => replay_crowds::limits(out, words, memory)?,
+        Ok(CallKind::CrowdCover) => replay_crowds::crowd_cover(out, words, memory)?,
+        Ok(CallKind::OwnCover) => replay_tables::own_cover(out, words, memory)?,
+        Err(UnknownCall(number)) => unknown(out, number, words, memory)?,
+    }
+    Ok(None)
+}
+
+// Replays a frame, and writes its line.
+fn step<W: Write>(out: &mut W, frame: &[u8], memory: &mut Memory<'_>) -> io::Result<()> {
+    let head = call(out, &mut Words::new(frame), memory)?;
+    frames::print_checksum(out, memory.checksum(head))
 }
 
 // Replays the stream, with memory that stays from call to call. A stream has fewer calls than the bound.
@@ -141,26 +66,24 @@ pub fn run<R: Read, W: Write>(input: &mut R, out: &mut W) -> io::Result<()> {
     let mut minimums = [0u16; 70];
     let mut marks = [0u16; 270];
     let mut answers = [0u16; 70];
+    let mut memory = Memory {
+        operators: Part::new(&mut operators),
+        rides: Part::new(&mut rides),
+        stamps: Part::new(&mut stamps),
+        revisions: Part::new(&mut revisions),
+        index: Part::new(&mut index),
+        presence_stamps: Part::new(&mut presence_stamps),
+        presence_revisions: Part::new(&mut presence_revisions),
+        presence: Part::new(&mut presence),
+        minimums: Part::new(&mut minimums),
+        marks: Part::new(&mut marks),
+        answers: Part::new(&mut answers),
+    };
     for _ in 0..1000000u32 {
-        let bytes = frames::next(input, &mut buffer)?;
-        if bytes == 0 {
+        let Some(frame) = frames::next(input, &mut buffer)? else {
             return Ok(());
-        }
-        step(
-            out,
-            &buffer[0..bytes],
-            &mut operators,
-            &mut rides,
-            &mut stamps,
-            &mut revisions,
-            &mut index,
-            &mut presence_stamps,
-            &mut presence_revisions,
-            &mut presence,
-            &mut minimums,
-            &mut marks,
-            &mut answers,
-        )?;
+        };
+        step(out, frame, &mut memory)?;
     }
     Ok(())
 }

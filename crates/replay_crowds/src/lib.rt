@@ -1,88 +1,81 @@
-// The calls of a frame that take a crowd table: the look-up and the cover for a guest count.
+// The calls of a frame that take a crowd table: the look-up and the cover for a guest count. Each writes its answer's numbers.
 #![tactic(auto)]
 
-use model::{Band, Bands};
-use replay_memory::Lent;
+use frames::{CallKind, Words};
+use model::{Band, Bands, Counts, Head};
+use replay_memory::Memory;
 use std::io;
 use std::io::Write;
 
-// The band at a place of a frame.
-fn band_at(frame: &[u8], at: usize) -> Band {
+// The next words of a frame as a band.
+fn band(words: &mut Words<'_>) -> Band {
+    let first = words.word();
+    let last = words.word();
+    let alpha = words.word();
+    let beta = words.word();
     Band {
-        first: frames::word(frame, at),
-        last: frames::word(frame, frames::past(at, 1)),
-        alpha: frames::word(frame, frames::past(at, 2)),
-        beta: frames::word(frame, frames::past(at, 3)),
+        first,
+        last,
+        alpha,
+        beta,
     }
 }
 
-// The crowd table at a place of a frame: the count, and eight bands.
-fn table_at(frame: &[u8], at: usize) -> Bands {
-    let mut bands = [band_at(frame, frames::past(at, 1)); 8];
-    for i in 1..8usize {
-        bands[i] = band_at(frame, frames::past(at, 4 * i + 1));
+// The next words of a frame as a crowd table: the count, and eight bands.
+pub fn table(words: &mut Words<'_>) -> Bands {
+    let count = words.word();
+    let mut bands = [band(words); 8];
+    for place in &mut bands[1..] {
+        *place = band(words);
     }
-    Bands {
-        count: frames::word(frame, at),
-        bands,
-    }
+    Bands { count, bands }
 }
 
-fn limits<W: Write>(out: &mut W, frame: &[u8]) -> io::Result<()> {
-    let guests = frames::word(frame, 1);
-    let found = crowd_bands::crowd_limits(table_at(frame, 2), guests);
+// A look-up. Nothing is lent.
+pub fn limits<W: Write>(
+    out: &mut W,
+    words: &mut Words<'_>,
+    memory: &mut Memory<'_>,
+) -> io::Result<()> {
+    let guests = words.word();
+    let found = crowd_bands::crowd_limits(table(words), guests);
+    memory.load(words, Some(CallKind::LookUp));
     frames::print(out, found.code)?;
     frames::print(out, found.alpha)?;
     frames::print(out, found.beta)
 }
 
-fn cover<W: Write>(
+// A cover for a guest count, with the parts that are lent.
+pub fn cover<W: Write>(
     out: &mut W,
-    frame: &[u8],
-    lent: Lent,
-    operators: &[u16],
-    rides: &[u16],
-    presence: &[u16],
-    minimums: &[u16],
-    marks: &mut [u16],
+    head: Head,
+    guests: u16,
+    bands: Bands,
+    memory: &mut Memory<'_>,
 ) -> io::Result<()> {
-    let guests = frames::word(frame, 4);
-    let o = frames::least(lent.operators, operators.len());
-    let r = frames::least(lent.rides, rides.len());
-    let p = frames::least(lent.presence, presence.len());
-    let n = frames::least(lent.minimums, minimums.len());
-    let m = frames::least(lent.marks, marks.len());
     let counts = call_crowd_cover::crowd_cover(
-        frames::head(frame),
-        &operators[0..o],
-        &rides[0..r],
-        &presence[0..p],
-        table_at(frame, 5),
+        head,
+        memory.operators.read(),
+        memory.rides.read(),
+        memory.presence.read(),
+        bands,
         guests,
-        &minimums[0..n],
-        &mut marks[0..m],
-    );
-    frames::print(out, counts.code)?;
-    frames::print(out, counts.operators)?;
-    frames::print(out, counts.rides)
+        memory.minimums.read(),
+        memory.marks.lent(),
+    )
+    .unwrap_or_else(Counts::from);
+    replay_tables::print_counts(out, counts)
 }
 
-// Makes the call of a frame that takes a crowd table, and writes its answer's numbers.
-pub fn call<W: Write>(
+// A cover for a guest count.
+pub fn crowd_cover<W: Write>(
     out: &mut W,
-    frame: &[u8],
-    lent: Lent,
-    operators: &[u16],
-    rides: &[u16],
-    presence: &[u16],
-    minimums: &[u16],
-    marks: &mut [u16],
+    words: &mut Words<'_>,
+    memory: &mut Memory<'_>,
 ) -> io::Result<()> {
-    if frames::word(frame, 0) == 6 {
-        limits(out, frame)
-    } else {
-        cover(
-            out, frame, lent, operators, rides, presence, minimums, marks,
-        )
-    }
+    let head = words.head();
+    let guests = words.word();
+    let bands = table(words);
+    memory.load(words, Some(CallKind::CrowdCover));
+    cover(out, head, guests, bands, memory)
 }

@@ -1,113 +1,109 @@
 // The memory that the replays lend: set as a frame says, and its checksum.
 #![tactic(auto)]
 
-// The checksum of a frame's head, with so many pairs by now.
-pub fn head_checksum(frame: &[u8], pairs: u16) -> u64 {
-    let words = [frames::word(frame, 1), frames::word(frame, 2), pairs];
-    lent_parts::checksum(0, 3, &words)
+use frames::{CallKind, Words};
+use lent_parts::Part;
+use model::Head;
+use part_board::{BoardMut, BoardRef};
+
+// The checksum of a head.
+fn head_checksum(head: Head) -> u64 {
+    let operators = lent_parts::add(0, u32::from(head.operators));
+    let rides = lent_parts::add(operators, u32::from(head.rides));
+    lent_parts::add(rides, u32::from(head.pairs))
 }
 
-// How many places of each part a call lends.
-#[derive(Clone, Copy)]
-pub struct Lent {
-    pub operators: usize,
-    pub rides: usize,
-    pub stamps: usize,
-    pub revisions: usize,
-    pub index: usize,
-    pub presence_stamps: usize,
-    pub presence_revisions: usize,
-    pub presence: usize,
-    pub minimums: usize,
-    pub marks: usize,
-    pub answers: usize,
+// The parts of a board, and what calls are lent beside them.
+#[derive(Drop)]
+pub struct Memory<'a> {
+    pub operators: Part<'a, u16>,
+    pub rides: Part<'a, u16>,
+    pub stamps: Part<'a, u32>,
+    pub revisions: Part<'a, u16>,
+    pub index: Part<'a, u16>,
+    pub presence_stamps: Part<'a, u32>,
+    pub presence_revisions: Part<'a, u16>,
+    pub presence: Part<'a, u16>,
+    pub minimums: Part<'a, u16>,
+    pub marks: Part<'a, u16>,
+    pub answers: Part<'a, u16>,
 }
 
-// The checksum with all that was lent more.
-pub fn checksum(
-    head: u64,
-    lent: Lent,
-    operators: &[u16; 12300],
-    rides: &[u16; 12300],
-    stamps: &[u32; 12300],
-    revisions: &[u16; 12300],
-    index: &[u16; 16000],
-    presence_stamps: &[u32; 270],
-    presence_revisions: &[u16; 270],
-    presence: &[u16; 270],
-    minimums: &[u16; 70],
-    marks: &[u16; 270],
-    answers: &[u16; 70],
-) -> u64 {
-    let o = lent_parts::checksum(head, lent.operators, operators);
-    let r = lent_parts::checksum(o, lent.rides, rides);
-    let s = lent_parts::checksum_longs(r, lent.stamps, stamps);
-    let v = lent_parts::checksum(s, lent.revisions, revisions);
-    let i = lent_parts::checksum(v, lent.index, index);
-    let t = lent_parts::checksum_longs(i, lent.presence_stamps, presence_stamps);
-    let c = lent_parts::checksum(t, lent.presence_revisions, presence_revisions);
-    let p = lent_parts::checksum(c, lent.presence, presence);
-    let n = lent_parts::checksum(p, lent.minimums, minimums);
-    let m = lent_parts::checksum(n, lent.marks, marks);
-    lent_parts::checksum(m, lent.answers, answers)
-}
-
-// Where the parts of a call begin in its frame.
-fn parts_at(frame: &[u8]) -> usize {
-    match frames::word(frame, 0) {
-        1 => 6,
-        2 => 6,
-        3 => 7,
-        4 => 10,
-        7 => 38,
-        8 => 6,
-        _ => frames::past(5, 6 * (frames::word(frame, 4) as usize)),
+impl Memory<'_> {
+    // Sets the memory as the parts of a frame say. A query has no pairs, a peel and the covers have no index, and none of them has stamps or revisions,
+    // of pairs or of nodes; they alone have marks. A peel and the covers alone have minimums. A look-up in a crowd table has no parts. A frame of no known
+    // call has the pairs and the presence.
+    pub fn load(&mut self, words: &mut Words<'_>, kind: Option<CallKind>) {
+        let whole = matches!(
+            kind,
+            Some(CallKind::Build | CallKind::Message | CallKind::List)
+        );
+        let own = matches!(
+            kind,
+            Some(CallKind::Peel | CallKind::CrowdCover | CallKind::OwnCover)
+        );
+        let query = kind == Some(CallKind::Query);
+        let look_up = kind == Some(CallKind::LookUp);
+        let paired = !query && !look_up;
+        self.operators.load(words, paired);
+        self.rides.load(words, paired);
+        self.stamps.load(words, whole);
+        self.revisions.load(words, whole);
+        self.index.load(words, whole || query);
+        self.presence_stamps.load(words, whole);
+        self.presence_revisions.load(words, whole);
+        self.presence.load(words, !look_up);
+        self.minimums.load(words, own);
+        self.marks.load(words, own || query);
+        self.answers.load(words, kind == Some(CallKind::List));
     }
-}
 
-// Sets the memory as the parts of a frame say. A query has no pairs, a peel and the covers have no index, and none of them has stamps or revisions,
-// of pairs or of nodes; they alone have marks. A peel and the covers alone have minimums. A look-up in a crowd table has no parts.
-pub fn load(
-    frame: &[u8],
-    operators: &mut [u16; 12300],
-    rides: &mut [u16; 12300],
-    stamps: &mut [u32; 12300],
-    revisions: &mut [u16; 12300],
-    index: &mut [u16; 16000],
-    presence_stamps: &mut [u32; 270],
-    presence_revisions: &mut [u16; 270],
-    presence: &mut [u16; 270],
-    minimums: &mut [u16; 70],
-    marks: &mut [u16; 270],
-    answers: &mut [u16; 70],
-) -> Lent {
-    let kind = frames::word(frame, 0);
-    let whole = kind == 1 || kind == 4 || kind == 5;
-    let own = kind == 3 || kind == 7 || kind == 8;
-    let marked = own || kind == 2;
-    let paired = kind != 2 && kind != 6;
-    let o = lent_parts::load(frame, parts_at(frame), paired, operators);
-    let r = lent_parts::load(frame, o.next, paired, rides);
-    let s = lent_parts::load_longs(frame, r.next, whole, stamps);
-    let v = lent_parts::load(frame, s.next, whole, revisions);
-    let i = lent_parts::load(frame, v.next, whole || kind == 2, index);
-    let t = lent_parts::load_longs(frame, i.next, whole, presence_stamps);
-    let c = lent_parts::load(frame, t.next, whole, presence_revisions);
-    let p = lent_parts::load(frame, c.next, kind != 6, presence);
-    let n = lent_parts::load(frame, p.next, own, minimums);
-    let m = lent_parts::load(frame, n.next, marked, marks);
-    let a = lent_parts::load(frame, m.next, kind == 5, answers);
-    Lent {
-        operators: o.places,
-        rides: r.places,
-        stamps: s.places,
-        revisions: v.places,
-        index: i.places,
-        presence_stamps: t.places,
-        presence_revisions: c.places,
-        presence: p.places,
-        minimums: n.places,
-        marks: m.places,
-        answers: a.places,
+    // The board that is lent.
+    pub fn board(&mut self, head: Head) -> BoardMut<'_> {
+        BoardMut {
+            head,
+            operators: self.operators.lent(),
+            rides: self.rides.lent(),
+            stamps: self.stamps.lent(),
+            revisions: self.revisions.lent(),
+            index: self.index.lent(),
+            presence_stamps: self.presence_stamps.lent(),
+            presence_revisions: self.presence_revisions.lent(),
+            presence: self.presence.lent(),
+        }
+    }
+
+    // The same, to read.
+    pub fn read(&self, head: Head) -> BoardRef<'_> {
+        BoardRef {
+            head,
+            operators: self.operators.read(),
+            rides: self.rides.read(),
+            stamps: self.stamps.read(),
+            revisions: self.revisions.read(),
+            index: self.index.read(),
+            presence_stamps: self.presence_stamps.read(),
+            presence_revisions: self.presence_revisions.read(),
+            presence: self.presence.read(),
+        }
+    }
+
+    // The checksum of a head, if there is one, and of all that is lent.
+    pub fn checksum(&self, head: Option<Head>) -> u64 {
+        let start = match head {
+            Some(head) => head_checksum(head),
+            None => 0,
+        };
+        let mut sum = self.operators.checksum(start);
+        sum = self.rides.checksum(sum);
+        sum = self.stamps.checksum(sum);
+        sum = self.revisions.checksum(sum);
+        sum = self.index.checksum(sum);
+        sum = self.presence_stamps.checksum(sum);
+        sum = self.presence_revisions.checksum(sum);
+        sum = self.presence.checksum(sum);
+        sum = self.minimums.checksum(sum);
+        sum = self.marks.checksum(sum);
+        self.answers.checksum(sum)
     }
 }

@@ -1,208 +1,74 @@
-// The message and message list calls of a frame, sent through `call_message::deliver`: a message is delivered as a list of one.
+// The message and message list calls of a frame, sent through `call_message::deliver`: a message is delivered as a list of one. Each writes its answer's
+// numbers, and answers the head after it.
 #![tactic(auto)]
 
-use message_taking::Delivered;
-use replay_memory::Lent;
+use frames::{CallKind, Words};
+use model::{Head, Message};
+use refusal_kind::Refusal;
+use replay_memory::Memory;
 use std::io;
 use std::io::Write;
 
-// Delivers the message at a place of the frame, to a board that has so many pairs by now.
-fn deliver_at(
-    frame: &[u8],
-    at: usize,
-    pairs: u16,
-    operators: &mut [u16],
-    rides: &mut [u16],
-    stamps: &mut [u32],
-    revisions: &mut [u16],
-    index: &mut [u16],
-    presence_stamps: &mut [u32],
-    presence_revisions: &mut [u16],
-    presence: &mut [u16],
-) -> Delivered {
-    let now = frames::head_now(frame, pairs);
-    call_message::deliver(
-        now,
-        frames::message_at(frame, at),
-        operators,
-        rides,
-        stamps,
-        revisions,
-        index,
-        presence_stamps,
-        presence_revisions,
-        presence,
-    )
+// Delivers a message to the board that is lent, and answers how many index words differ before and after.
+fn deliver(head: &mut Head, message: Message, memory: &mut Memory<'_>) -> Result<u16, Refusal> {
+    let mut board = memory.board(*head);
+    let answer = call_message::deliver(&mut board, message);
+    *head = board.head;
+    answer
 }
 
-// Delivers so many messages from a place of the frame on, one after another, an answer for each. Answers what the last one gave.
-fn deliver_all(
-    frame: &[u8],
-    first: usize,
-    count: usize,
-    operators: &mut [u16],
-    rides: &mut [u16],
-    stamps: &mut [u32],
-    revisions: &mut [u16],
-    index: &mut [u16],
-    presence_stamps: &mut [u32],
-    presence_revisions: &mut [u16],
-    presence: &mut [u16],
-    answers: &mut [u16],
-) -> Delivered {
-    let mut last = Delivered {
-        code: 0,
-        differ: 0,
-        pairs: frames::word(frame, 3),
+// A message.
+pub fn message<W: Write>(
+    out: &mut W,
+    words: &mut Words<'_>,
+    memory: &mut Memory<'_>,
+) -> io::Result<Head> {
+    let mut head = words.head();
+    let message = words.message();
+    memory.load(words, Some(CallKind::Message));
+    let (code, differ) = match deliver(&mut head, message, memory) {
+        Ok(differ) => (0, differ),
+        Err(refusal) => (refusal.number(), 0),
     };
-    let mut at = first;
-    for i in 0..count {
-        last = deliver_at(
-            frame,
-            at,
-            last.pairs,
-            operators,
-            rides,
-            stamps,
-            revisions,
-            index,
-            presence_stamps,
-            presence_revisions,
-            presence,
-        );
-        lent_parts::store(answers, i, last.code);
-        at = frames::past(at, 6);
-    }
-    last
-}
-
-// Whether a frame is a message, and not a list.
-fn is_message(frame: &[u8]) -> bool {
-    frames::word(frame, 0) == 4
-}
-
-// Where a frame's first message is.
-fn first_at(frame: &[u8]) -> usize {
-    if is_message(frame) { 4 } else { 5 }
-}
-
-// How many messages of a frame are delivered: one, or all of a list if its own number, which is written, is 0.
-fn count<W: Write>(
-    out: &mut W,
-    frame: &[u8],
-    operators: &[u16],
-    rides: &[u16],
-    stamps: &[u32],
-    revisions: &[u16],
-    index: &[u16],
-    presence_stamps: &[u32],
-    presence_revisions: &[u16],
-    presence: &[u16],
-    answers: &[u16],
-) -> io::Result<usize> {
-    if is_message(frame) {
-        return Ok(1);
-    }
-    let messages = frames::word(frame, 4) as usize;
-    let code = refusal_message::list_number(
-        frames::head(frame),
-        messages,
-        operators,
-        rides,
-        stamps,
-        revisions,
-        index,
-        presence_stamps,
-        presence_revisions,
-        presence,
-        answers,
-    );
     frames::print(out, code)?;
-    Ok(frames::only(code == 0, messages))
+    frames::print(out, differ)?;
+    Ok(head)
 }
 
-// Writes the answer's numbers, if the frame is a message.
-fn print_answer<W: Write>(out: &mut W, frame: &[u8], delivered: Delivered) -> io::Result<()> {
-    if is_message(frame) {
-        frames::print(out, delivered.code)?;
-        frames::print(out, delivered.differ)?;
+// Delivers the next so many messages of a frame, one after another, an answer for each.
+fn deliver_all(head: &mut Head, count: usize, words: &mut Words<'_>, memory: &mut Memory<'_>) {
+    for i in 0..count {
+        let code = match deliver(head, words.message(), memory) {
+            Ok(_) => 0,
+            Err(refusal) => refusal.number(),
+        };
+        if let Some(answer) = memory.answers.lent().get_mut(i) {
+            *answer = code;
+        }
     }
-    Ok(())
 }
 
-// Delivers the messages of a frame, and answers the count of pairs after them.
-fn deliver<W: Write>(
-    out: &mut W,
-    frame: &[u8],
-    operators: &mut [u16],
-    rides: &mut [u16],
-    stamps: &mut [u32],
-    revisions: &mut [u16],
-    index: &mut [u16],
-    presence_stamps: &mut [u32],
-    presence_revisions: &mut [u16],
-    presence: &mut [u16],
-    answers: &mut [u16],
-) -> io::Result<u16> {
-    let messages = count(
-        out,
-        frame,
-        operators,
-        rides,
-        stamps,
-        revisions,
-        index,
-        presence_stamps,
-        presence_revisions,
-        presence,
-        answers,
-    )?;
-    let delivered = deliver_all(
-        frame,
-        first_at(frame),
-        messages,
-        operators,
-        rides,
-        stamps,
-        revisions,
-        index,
-        presence_stamps,
-        presence_revisions,
-        presence,
-        answers,
-    );
-    print_answer(out, frame, delivered)?;
-    Ok(delivered.pairs)
+// Checks a message list of so many messages.
+fn check_list(head: Head, messages: usize, memory: &Memory<'_>) -> Result<(), Refusal> {
+    refusal_message::check_list(memory.read(head), messages, memory.answers.read())
 }
 
-// Makes the call of a frame that is a message or a message list, with what it lends of each part, writes its answer's numbers, and answers the
-// checksum of the head.
-pub fn call<W: Write>(
+// A message list: its messages, if its own number, which is written, is 0.
+pub fn list<W: Write>(
     out: &mut W,
-    frame: &[u8],
-    lent: Lent,
-    operators: &mut [u16],
-    rides: &mut [u16],
-    stamps: &mut [u32],
-    revisions: &mut [u16],
-    index: &mut [u16],
-    presence_stamps: &mut [u32],
-    presence_revisions: &mut [u16],
-    presence: &mut [u16],
-    answers: &mut [u16],
-) -> io::Result<u64> {
-    let pairs = deliver(
-        out,
-        frame,
-        lent_parts::first(operators, lent.operators),
-        lent_parts::first(rides, lent.rides),
-        lent_parts::first_longs(stamps, lent.stamps),
-        lent_parts::first(revisions, lent.revisions),
-        lent_parts::first(index, lent.index),
-        lent_parts::first_longs(presence_stamps, lent.presence_stamps),
-        lent_parts::first(presence_revisions, lent.presence_revisions),
-        lent_parts::first(presence, lent.presence),
-        lent_parts::first(answers, lent.answers),
-    )?;
-    Ok(replay_memory::head_checksum(frame, pairs))
+    words: &mut Words<'_>,
+    memory: &mut Memory<'_>,
+) -> io::Result<Head> {
+    let mut head = words.head();
+    let count = usize::from(words.word());
+    let mut messages = *words;
+    memory.load(&mut words.behind(6 * count), Some(CallKind::List));
+    match check_list(head, count, memory) {
+        Ok(()) => {
+            frames::print(out, 0)?;
+            deliver_all(&mut head, count, &mut messages, memory);
+        }
+        Err(refusal) => frames::print(out, refusal.number())?,
+    }
+    Ok(head)
 }

@@ -1,169 +1,119 @@
 // The calls of a frame that send no message and take no crowd table: build, query, peel and the cover with minimums, by the functions behind the
-// exported calls.
+// exported calls. Each writes its answer's numbers.
 #![tactic(auto)]
 
-use frames::head;
-use replay_memory::Lent;
+use frames::{CallKind, Words};
+use model::{Counts, Head, Peeled};
+use replay_memory::Memory;
 use std::io;
 use std::io::Write;
 
-fn build<W: Write>(
+// Writes three numbers of an answer.
+fn print_three<W: Write>(out: &mut W, first: u16, second: u16, third: u16) -> io::Result<()> {
+    frames::print(out, first)?;
+    frames::print(out, second)?;
+    frames::print(out, third)
+}
+
+// Writes what a query or a cover answers.
+pub fn print_counts<W: Write>(out: &mut W, counts: Counts) -> io::Result<()> {
+    print_three(out, counts.code, counts.operators, counts.rides)
+}
+
+// A build.
+pub fn build<W: Write>(
     out: &mut W,
-    frame: &[u8],
-    lent: Lent,
-    operators: &mut [u16],
-    rides: &mut [u16],
-    stamps: &mut [u32],
-    revisions: &mut [u16],
-    index: &mut [u16],
-    presence_stamps: &mut [u32],
-    presence_revisions: &mut [u16],
-    presence: &mut [u16],
+    words: &mut Words<'_>,
+    memory: &mut Memory<'_>,
 ) -> io::Result<()> {
-    let start = frames::long(frame, 4);
-    let code = call_build::build(
-        head(frame),
-        lent_parts::first(operators, lent.operators),
-        lent_parts::first(rides, lent.rides),
-        start,
-        lent_parts::first_longs(stamps, lent.stamps),
-        lent_parts::first(revisions, lent.revisions),
-        lent_parts::first(index, lent.index),
-        lent_parts::first_longs(presence_stamps, lent.presence_stamps),
-        lent_parts::first(presence_revisions, lent.presence_revisions),
-        lent_parts::first(presence, lent.presence),
-    );
+    let head = words.head();
+    let start = words.long();
+    memory.load(words, Some(CallKind::Build));
+    let code = match call_build::build(&mut memory.board(head), start) {
+        Ok(()) => 0,
+        Err(refusal) => refusal.number(),
+    };
     frames::print(out, code)
 }
 
-fn query<W: Write>(
+// A query.
+pub fn query<W: Write>(
     out: &mut W,
-    frame: &[u8],
-    lent: Lent,
-    index: &[u16],
-    presence: &[u16],
-    marks: &mut [u16],
+    words: &mut Words<'_>,
+    memory: &mut Memory<'_>,
 ) -> io::Result<()> {
-    let alpha = frames::word(frame, 4);
-    let beta = frames::word(frame, 5);
-    let i = frames::least(lent.index, index.len());
-    let p = frames::least(lent.presence, presence.len());
-    let m = frames::least(lent.marks, marks.len());
+    let head = words.head();
+    let alpha = words.word();
+    let beta = words.word();
+    memory.load(words, Some(CallKind::Query));
     let counts = call_query::query(
-        head(frame),
-        &index[0..i],
-        &presence[0..p],
+        head,
+        memory.index.read(),
+        memory.presence.read(),
         alpha,
         beta,
-        &mut marks[0..m],
+        memory.marks.lent(),
     );
-    frames::print(out, counts.code)?;
-    frames::print(out, counts.operators)?;
-    frames::print(out, counts.rides)
+    print_counts(out, counts)
 }
 
-fn peel<W: Write>(
+// A peel.
+pub fn peel<W: Write>(
     out: &mut W,
-    frame: &[u8],
-    lent: Lent,
-    operators: &[u16],
-    rides: &[u16],
-    presence: &[u16],
-    minimums: &[u16],
-    marks: &mut [u16],
+    words: &mut Words<'_>,
+    memory: &mut Memory<'_>,
 ) -> io::Result<()> {
-    let alpha = frames::word(frame, 4);
-    let beta = frames::word(frame, 5);
-    let steps = frames::word(frame, 6);
-    let o = frames::least(lent.operators, operators.len());
-    let r = frames::least(lent.rides, rides.len());
-    let p = frames::least(lent.presence, presence.len());
-    let n = frames::least(lent.minimums, minimums.len());
-    let m = frames::least(lent.marks, marks.len());
+    let head = words.head();
+    let alpha = words.word();
+    let beta = words.word();
+    let steps = words.word();
+    memory.load(words, Some(CallKind::Peel));
     let peeled = call_peel::peel(
-        head(frame),
-        &operators[0..o],
-        &rides[0..r],
-        &presence[0..p],
-        &minimums[0..n],
-        &mut marks[0..m],
+        head,
+        memory.operators.read(),
+        memory.rides.read(),
+        memory.presence.read(),
+        memory.minimums.read(),
+        memory.marks.lent(),
         alpha,
         beta,
         steps,
-    );
-    frames::print(out, peeled.code)?;
-    frames::print(out, peeled.settled)?;
-    frames::print(out, peeled.steps)
+    )
+    .unwrap_or_else(Peeled::from);
+    print_three(out, peeled.code, peeled.settled, peeled.steps)
 }
 
-fn own_cover<W: Write>(
+// A cover with minimums, with the parts that are lent.
+pub fn cover<W: Write>(
     out: &mut W,
-    frame: &[u8],
-    lent: Lent,
-    operators: &[u16],
-    rides: &[u16],
-    presence: &[u16],
-    minimums: &[u16],
-    marks: &mut [u16],
+    head: Head,
+    alpha: u16,
+    beta: u16,
+    memory: &mut Memory<'_>,
 ) -> io::Result<()> {
-    let alpha = frames::word(frame, 4);
-    let beta = frames::word(frame, 5);
-    let o = frames::least(lent.operators, operators.len());
-    let r = frames::least(lent.rides, rides.len());
-    let p = frames::least(lent.presence, presence.len());
-    let n = frames::least(lent.minimums, minimums.len());
-    let m = frames::least(lent.marks, marks.len());
     let counts = call_own_cover::own_cover(
-        head(frame),
-        &operators[0..o],
-        &rides[0..r],
-        &presence[0..p],
-        &minimums[0..n],
+        head,
+        memory.operators.read(),
+        memory.rides.read(),
+        memory.presence.read(),
+        memory.minimums.read(),
         alpha,
         beta,
-        &mut marks[0..m],
-    );
-    frames::print(out, counts.code)?;
-    frames::print(out, counts.operators)?;
-    frames::print(out, counts.rides)
+        memory.marks.lent(),
+    )
+    .unwrap_or_else(Counts::from);
+    print_counts(out, counts)
 }
 
-// Makes the call of a frame that is a build, a query, a peel or a cover with minimums, and writes its answer's numbers.
-pub fn call<W: Write>(
+// A cover with minimums.
+pub fn own_cover<W: Write>(
     out: &mut W,
-    frame: &[u8],
-    lent: Lent,
-    operators: &mut [u16],
-    rides: &mut [u16],
-    stamps: &mut [u32],
-    revisions: &mut [u16],
-    index: &mut [u16],
-    presence_stamps: &mut [u32],
-    presence_revisions: &mut [u16],
-    presence: &mut [u16],
-    minimums: &[u16],
-    marks: &mut [u16],
+    words: &mut Words<'_>,
+    memory: &mut Memory<'_>,
 ) -> io::Result<()> {
-    match frames::word(frame, 0) {
-        1 => build(
-            out,
-            frame,
-            lent,
-            operators,
-            rides,
-            stamps,
-            revisions,
-            index,
-            presence_stamps,
-            presence_revisions,
-            presence,
-        ),
-        2 => query(out, frame, lent, index, presence, marks),
-        3 => peel(
-            out, frame, lent, operators, rides, presence, minimums, marks,
-        ),
-        _ => own_cover(
-            out, frame, lent, operators, rides, presence, minimums, marks,
-        ),
-    }
+    let head = words.head();
+    let alpha = words.word();
+    let beta = words.word();
+    memory.load(words, Some(CallKind::OwnCover));
+    cover(out, head, alpha, beta, memory)
 }

@@ -1,21 +1,29 @@
 -- `call_crowd_cover::crowd_cover` meets its contract: it refuses, or finds the cover for the limits of the look-up.
-use mathlib.Core.Path.{refl}
-use native.Mathlib.Omega.{arith}
-use Rattle.call_crowd_cover.proofs.Outcomes.{refused_board, accepted, refused_bands, found}
+use mathlib.Core.Path.{◌≡◌, refl}
+use Rattle.std.proofs.Common.{rules}
+use Rattle.refusal_kind.specs.Number.{number}
+use Rattle.refusal_kind.specs.Told.{counts_of}
+use Rattle.refusal_kind.proofs.Refused.{refused}
+use Rattle.call_crowd_cover.proofs.Outcomes.{refused_board, long, refused_bands, found}
 use Rattle.call_crowd_cover.proofs.crowd_cover.Goals as goal
 
-pub returns-then-number-ne0 : goal.returns-then-number-ne0
-returns-then-number-ne0 c = let a = c.args in
-    refused_board a.head a.operators.now a.rides.now a.presence.now _ a.guests a.minimums.now a.marks.now _ c.lent_number-number.ensures (omega arith) _ c.refused.ensures
+pub returns-in_err-table : goal.returns-in_err-table
+returns-in_err-table c = let a = c.args in
+    let r = c.in_err-table.field-0.0 in
+    let same : counts_of c.from_residual.result ≡ record { code = number r; operators = 0; rides = 0 } = search rules in
+    refused_board a.head a.operators.now a.rides.now a.presence.now a.bands a.guests a.minimums.now a.marks.now _ c.in_err-table.ensures.refused (refused r) _ same
 
-pub returns-then-found-ne0 : goal.returns-then-found-ne0
-returns-then-found-ne0 c = let a = c.args in
-    refused_bands a.head a.operators.now a.rides.now a.presence.now _ a.guests a.minimums.now a.marks.now _ c.lent_number-number.ensures (omega (arith, c.if-number-ne0.false)) _ (c.find-found.ensures _ refl c.words-words.ensures) (omega (arith, c.if-found-ne0.true)) _ c.refused-then-found-ne0.ensures
+pub returns-in_err-limits : goal.returns-in_err-limits
+returns-in_err-limits c = let a = c.args in
+    let r = c.in_err-limits.field-0.0 in
+    let same : counts_of c.from_residual-in_err-limits.result ≡ record { code = number r; operators = 0; rides = 0 } = search rules in
+    refused_bands a.head a.operators.now a.rides.now a.presence.now a.bands a.guests a.minimums.now a.marks.now _ c.in_ok-table.ensures.refused refl _ 0 0 c.in_err-limits.ensures (refused r) _ same
 
 pub cover_present-requires : goal.cover_present-requires
 cover_present-requires c = let a = c.args in
-    accepted a.head a.operators.now a.rides.now a.presence.now a.bands a.guests a.minimums.now a.marks.now _ c.lent_number-number.ensures (omega (arith, c.if-number-ne0.false))
+    let l = long a.head a.operators.now a.rides.now a.presence.now a.bands a.guests a.minimums.now a.marks.now _ c.in_ok-table.ensures.refused refl _ c.in_ok-table.ensures.table.0 in
+    (l.0, l.1, l.2)
 
 pub returns : goal.returns
 returns c = let a = c.args in
-    found a.head a.operators.now a.rides.now a.presence.now _ a.guests a.minimums.now a.marks.now _ c.lent_number-number.ensures (omega (arith, c.if-number-ne0.false)) _ (c.find-found.ensures _ refl c.words-words.ensures) (omega (arith, c.if-found-ne0.false)) _ c.cover_present.ensures
+    found a.head a.operators.now a.rides.now a.presence.now a.bands a.guests a.minimums.now a.marks.now _ c.in_ok-table.ensures.refused refl _ _ _ c.in_ok-limits.ensures refl _ _ _ c.in_ok-table.ensures.table _ c.cover_present.ensures

@@ -1,28 +1,29 @@
 -- `call_message_list::turn` meets its contract: the message is entered and its number stored, and after the last message the index is filled.
-use native.Mathlib.Omega.{arith}
-use lib.ListN.{length-set}
-use Rattle.model.specs.Layout.{lent}
+use Rattle.std.proofs.Common.{ap, ◌∙◌}
+use lib.ListN.{length-set, set}
+use Rattle.model.specs.Layout.{Board}
+use Rattle.model.specs.Outcome.{listed_out}
+use Rattle.part_board.specs.Lent.{mut_board}
 use Rattle.call_message_list.proofs.Once.{turn_room, turn_answers, turn_ready, turn_done}
 use Rattle.call_message_list.proofs.turn.Goals as goal
 
 pub enter_valid-entered-requires : goal.enter_valid-entered-requires
-enter_valid-entered-requires c = let a = c.args in
-    (a.index.now, turn_room (lent a.head a.operators.now a.rides.now a.stamps.now a.revisions.now a.index.now a.presence_stamps.now a.presence_revisions.now a.presence.now) a.message a.n a.answers.now c.requires.0)
-
-pub offset_bounds-answers-at : goal.offset_bounds-answers-at
-offset_bounds-answers-at c = let a = c.args in
-    omega (arith, turn_answers (lent a.head a.operators.now a.rides.now a.stamps.now a.revisions.now a.index.now a.presence_stamps.now a.presence_revisions.now a.presence.now) a.message a.n a.answers.now c.requires.0, c.requires.1)
-
-pub bounds-answers-at : goal.bounds-answers-at
-bounds-answers-at c = let a = c.args in
-    omega (arith, turn_answers (lent a.head a.operators.now a.rides.now a.stamps.now a.revisions.now a.index.now a.presence_stamps.now a.presence_revisions.now a.presence.now) a.message a.n a.answers.now c.requires.0, c.requires.1)
+enter_valid-entered-requires c = let a = c.args in turn_room (mut_board a.board.now) a.message a.n a.answers.now c.requires.list
 
 pub finish-requires : goal.finish-requires
 finish-requires c = let a = c.args in
-    let b = (lent a.head a.operators.now a.rides.now a.stamps.now a.revisions.now a.index.now a.presence_stamps.now a.presence_revisions.now a.presence.now) in
-    let r = turn_ready b a.message a.n a.answers.now c.requires.0 _ _ (c.enter_valid-entered.ensures a.index.now) in
-    (r.0, r.1, r.2, c.requires.1, simp length-set (turn_answers b a.message a.n a.answers.now c.requires.0))
+    let e = c.enter_valid-entered.ensures in
+    let r = turn_ready (mut_board a.board.now) a.message a.n a.answers.now c.requires.list _ (mut_board c.enter_valid-entered.new.board) (e.number, e.done) in
+    record {
+      pairs = r.0;
+      presence = r.1;
+      index = r.2;
+      turn = c.requires.turn;
+      numbers = simp length-set (turn_answers (mut_board a.board.now) a.message a.n a.answers.now c.requires.list);
+    }
 
-pub returns : goal.returns
-returns c = let a = c.args in
-    turn_done (lent a.head a.operators.now a.rides.now a.stamps.now a.revisions.now a.index.now a.presence_stamps.now a.presence_revisions.now a.presence.now) a.message a.n a.answers.now c.requires.0 _ _ (c.enter_valid-entered.ensures a.index.now) a.at _ c.finish.ensures
+pub returns-clause-done : goal.returns-clause-done
+returns-clause-done c = let a = c.args in
+    let e = c.enter_valid-entered.ensures in
+    ap (λ (b : Board). listed_out 0 b (set a.answers.now a.at c.number_of.result)) c.finish.ensures.done ∙
+    turn_done (mut_board a.board.now) a.message a.n a.answers.now c.requires.list _ (mut_board c.enter_valid-entered.new.board) (c.number_of.ensures ∙ e.number, e.done) a.at

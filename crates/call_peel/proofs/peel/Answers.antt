@@ -1,20 +1,28 @@
 -- `call_peel::peel` meets its contract: it refuses, or peels over new tables.
-use mathlib.Core.Path.{◌≡◌, sym, ◌∙◌}
+use mathlib.Core.Path.{◌≡◌, sym, ap, ◌∙◌}
 use native.Mathlib.Omega.{arith}
+use Rattle.std.proofs.Common.{rules}
+use Rattle.model.specs.declared.Peeled.{Peeled}
+use Rattle.model.specs.Outcome.{peel_left}
 use Rattle.graph_tables.proofs.Held.{zero_tables}
-use Rattle.model.specs.Refusal.{peel_refusal}
-use Rattle.call_peel.proofs.Peels.{peel_refused, peel_done, peel_accepted}
+use Rattle.refusal_kind.specs.Number.{number}
+use Rattle.refusal_kind.specs.Told.{peeled_of}
+use Rattle.refusal_kind.proofs.Refused.{refused}
+use Rattle.call_peel.proofs.Peels.{peel_refused, peel_done, peel_long}
 use Rattle.call_peel.proofs.peel.Goals as goal
 
-pub returns-then-number-ne0 : goal.returns-then-number-ne0
-returns-then-number-ne0 c = let a = c.args in
-    peel_refused a.head a.operators.now a.rides.now a.presence.now a.minimums.now a.marks.now a.alpha a.beta a.steps _ c.peel_number-number.ensures (omega arith)
+pub returns-in_err-table : goal.returns-in_err-table
+returns-in_err-table c = let a = c.args in
+    let r = c.in_err-table.field-0.0 in
+    let same : peeled_of c.from_residual.result ≡ record { code = number r; settled = 0; steps = 0 } = search rules in
+    ap (λ (p : Peeled). peel_left p a.marks.now) same ∙
+    peel_refused a.head a.operators.now a.rides.now a.presence.now a.minimums.now a.marks.now a.alpha a.beta a.steps _ c.in_err-table.ensures.refused (refused r)
 
 pub peel_over-requires : goal.peel_over-requires
 peel_over-requires c = let a = c.args in
-    let k = peel_accepted a.head a.operators.now a.rides.now a.presence.now a.minimums.now a.marks.now ((let q : (let a = c.args in peel_refusal a.head a.operators.now a.rides.now a.presence.now a.minimums.now a.marks.now ≡ 0) = let q = c.peel_number-number in sym q.ensures ∙ (let z : q.result ≡ 0 = omega arith in z) in q)) in
-    (k.0, k.1, k.2, zero_tables, omega (arith, k.0.few_operators, k.0.few_rides), k.3)
+    let l = peel_long a.head a.operators.now a.rides.now a.presence.now a.minimums.now a.marks.now (sym c.in_ok-table.ensures.refused) _ c.in_ok-table.ensures.table.0 in
+    (l.0, l.1, zero_tables, omega (arith, l.2), l.3)
 
 pub returns : goal.returns
 returns c = let a = c.args in
-    peel_done a.head a.operators.now a.rides.now a.presence.now a.minimums.now a.marks.now ((let q : (let a = c.args in peel_refusal a.head a.operators.now a.rides.now a.presence.now a.minimums.now a.marks.now ≡ 0) = let q = c.peel_number-number in sym q.ensures ∙ (let z : q.result ≡ 0 = omega arith in z) in q)) a.alpha a.beta a.steps _ _ c.peel_over.ensures
+    peel_done a.head a.operators.now a.rides.now a.presence.now a.minimums.now a.marks.now (sym c.in_ok-table.ensures.refused) a.alpha a.beta a.steps _ _ _ c.in_ok-table.ensures.table _ _ c.peel_over.ensures

@@ -1,14 +1,15 @@
 -- `cover_lines::put_members` meets its contract. The invariant: the lines of the first i nodes are written.
 use borrow.Author.Rules.{rules}
-use mathlib.Core.Path.{◌≡◌, ◌∙◌}
+use mathlib.Core.Path.{◌∙◌}
 use mathlib.Core.Bool.{Bool}
 use mathlib.Core.List.{List}
-use Prim.Native.Nat.{ℕ, suc, ◌+◌, ◌*◌, ◌-◌}
+use Prim.Native.Nat.{ℕ, suc, ◌+◌, ◌*◌}
 use native.Mathlib.Numerals.{add-one}
 use native.Mathlib.Omega.{arith}
+use lib.Dec.{leb}
+use lib.ListN.{get_or}
 use Rattle.cover_text.specs.Text.{member_line, member_lines}
 use Rattle.cover_text.specs.Write.{Wrote}
-use Rattle.index_members.specs.Members.{level_at, member_at}
 use Rattle.cover_text.proofs.Write.{wrote_append, wrote_most}
 use Rattle.cover_lines.proofs.put_members.Goals as goal
 
@@ -29,13 +30,6 @@ pub loop-i-preserved : goal.loop-i-preserved
 loop-i-preserved c =
     let l = c.loop-i in
     let a = c.args in (
-      omega arith,
-      c.put_member-end.auto.out ∙ l.invariant.1,
-      more a.name.now (member_at a.least a.levels.now a.first) (level_at a.levels.now a.first) l.i l.invariant.2 c.put_member-end.ensures,
+      c.put_member-end.auto.out ∙ l.invariant.0,
+      more a.name.now (λ i. leb a.least (get_or a.levels.now i 0)) (λ i. get_or a.levels.now i 0) l.i l.invariant.1 c.put_member-end.ensures,
     )
-
-pub returns : goal.returns
-returns c =
-    let a = c.args in
-    let e : a.nodes ≡ c.loop-i.i = omega arith in
-    rw e c.loop-i.invariant.2

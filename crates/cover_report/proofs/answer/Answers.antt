@@ -4,6 +4,8 @@ use Prim.Native.Nat.{◌+◌, ◌*◌}
 use native.Mathlib.Omega.{arith}
 use lib.ListN.{length}
 use Rattle.model.specs.declared.Head.{Head}
+use Rattle.refusal_kind.specs.Number.{number}
+use Rattle.refusal_kind.proofs.Refused.{refused}
 use Rattle.cover_input.specs.Input.{head}
 use Rattle.cover_report.specs.Sizes.{Sizes, input_text}
 use Rattle.cover_report.proofs.Sizes.{checked, text_refused, text_checked}
@@ -11,30 +13,24 @@ use Rattle.cover_text.proofs.Write.{wrote_most}
 use Rattle.cover_report.proofs.Report.{reported}
 use Rattle.cover_report.proofs.answer.Goals as goal
 
-pub returns-then-number-ne0 : goal.returns-then-number-ne0
-returns-then-number-ne0 c =
-    let a = c.args in
-    reported a.input.now c.requires
-    (text_refused a.input.now c.size_refusal-number.result c.if-number-ne0.true c.size_refusal-number.ensures)
-    (wrote_most 5490 (omega arith) c.put_refusal.ensures)
-
-pub head_of-requires : goal.head_of-requires
-head_of-requires c =
-    let input = c.args.input.now in
-    omega (arith, checked (length input) (head input) (sym c.size_refusal-number.ensures ∙ c.if-number-ne0.false))
-
 pub answer_input-requires : goal.answer_input-requires
 answer_input-requires c =
     let input = c.args.input.now in
-    let ok = checked (length input) (head input) (sym c.size_refusal-number.ensures ∙ c.if-number-ne0.false) in (
-      subst Sizes (sym c.head_of.ensures) ok.0,
-      subst (λ (h : Head). length input ≡ 10 + 4 * h.pairs) (sym c.head_of.ensures) ok.1,
+    let e = c.in-Ok.ensures in
+    let ok = checked (length input) (head input) (sym e.refused) in (
+      subst Sizes (sym e.read.1) ok.0,
+      subst (λ (h : Head). length input ≡ 10 + 4 * h.pairs) (sym e.read.1) ok.1,
       omega arith,
     )
 
-pub returns : goal.returns
-returns c =
+pub returns-in-Ok : goal.returns-in-Ok
+returns-in-Ok c =
     let input = c.args.input.now in
-    reported input c.requires
-    (ap (input_text input) c.head_of.ensures ∙ text_checked input (sym c.size_refusal-number.ensures ∙ c.if-number-ne0.false))
-    c.answer_input.ensures
+    let e = c.in-Ok.ensures in
+    reported input c.requires (ap (input_text input) e.read.1 ∙ text_checked input (sym e.refused)) c.answer_input.ensures
+
+pub returns-in-Err : goal.returns-in-Err
+returns-in-Err c =
+    let input = c.args.input.now in
+    let r = c.in-Err.refusal in
+    reported input c.requires (text_refused input (number r) (refused r) c.in-Err.ensures.refused) (wrote_most 5490 (omega arith) c.put_refusal.ensures)

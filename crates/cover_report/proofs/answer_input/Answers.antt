@@ -38,7 +38,7 @@ pub returns : goal.returns
 returns c =
     let a = c.args in
     let input = a.input.now in
-    let n = a.h.pairs in
+    let n = a.head.pairs in
     wrote_text
     (rw (
       part input 3 n _ _ c.copy_words.ensures,

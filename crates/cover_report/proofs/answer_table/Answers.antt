@@ -2,7 +2,7 @@
 use mathlib.Core.Path.{◌≡◌, sym, subst, ◌∙◌}
 use mathlib.Core.Bool.{Bool, true, false, not}
 use mathlib.Core.List.{List}
-use Prim.Native.Nat.{ℕ, ◌+◌, ◌-◌, min}
+use Prim.Native.Nat.{ℕ, ◌+◌, min}
 use native.Mathlib.Omega.{arith}
 use native.Mathlib.Decide.{dec_lt}
 use lib.Dec.{T}
@@ -36,30 +36,36 @@ returns-then-not-ascending c =
     let a = c.args in
     wrote_most 5490 (omega arith)
     (wrote_text
-    (table_5 a.h a.operators.now a.rides.now a.alpha a.beta (refuses _ _ c.ascending.ensures c.if-not-ascending.true))
+    (table_5 a.head a.operators.now a.rides.now a.alpha a.beta (refuses _ _ c.ascending.ensures c.if-not-ascending.true))
     c.put_refusal.ensures)
+
+pub invariant_of-table : goal.invariant_of-table
+invariant_of-table c =
+    let a = c.args in
+    record {
+      accepted = record {
+        few_operators = c.requires.0.few_operators;
+        few_rides = c.requires.0.few_rides;
+        operators_long = omega arith;
+        rides_long = omega arith;
+        ordered = subst T (accepts (refused_5 a.head a.operators.now a.rides.now) _ c.ascending.ensures c.if-not-ascending.false);
+      };
+    }
 
 pub put_lines-requires : goal.put_lines-requires
 put_lines-requires c =
     let a = c.args in
-    let nodes = a.h.operators + a.h.rides - 0 in record {
-      accepted_pairs = (
-        record {
-          few_operators = c.requires.0.few_operators;
-          few_rides = c.requires.0.few_rides;
-          operators_long = omega arith;
-          rides_long = omega arith;
-          ordered = subst T (accepts (refused_5 a.h a.operators.now a.rides.now) _ c.ascending.ensures c.if-not-ascending.false);
-        },
-        length-take nodes (replicate 260 0) ∙ (let e : min nodes 260 ≡ a.h.operators + a.h.rides = omega arith in e),
+    let nodes = a.head.operators + a.head.rides in record {
+      row = (
+        length-take nodes (replicate 260 0) ∙ (let e : min nodes 260 ≡ a.head.operators + a.head.rides = omega arith in e),
         omega arith,
       );
-      by_index = take_zeros nodes (replicate 260 0) (getD_zeros 260);
+      zeros = take_zeros nodes (replicate 260 0) (getD_zeros 260);
     }
 
 pub returns : goal.returns
 returns c =
     let a = c.args in
     wrote_text
-    (table_cover a.h a.operators.now a.rides.now a.alpha a.beta (accepts _ _ c.ascending.ensures c.if-not-ascending.false))
+    (table_cover a.head a.operators.now a.rides.now a.alpha a.beta (accepts _ _ c.ascending.ensures c.if-not-ascending.false))
     c.put_lines.ensures

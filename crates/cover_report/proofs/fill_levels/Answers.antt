@@ -9,19 +9,20 @@ use Rattle.cover_report.proofs.Report.{row_above}
 use Rattle.cover_report.proofs.fill_levels.Goals as goal
 
 pub tabulate-degrees-requires : goal.tabulate-degrees-requires
-tabulate-degrees-requires c = let p = c.requires.accepted_pairs.0 in (p, (_, everybody_here _ (omega (arith, p.few_operators, p.few_rides))), zero_tables)
+tabulate-degrees-requires c = let p = c.args.table.accepted in ((_, everybody_here _ (omega (arith, p.few_operators, p.few_rides))), zero_tables)
 
-pub fill_row-requires : goal.fill_row-requires
-fill_row-requires c = let p = c.requires.accepted_pairs in
-    let read = c.tabulate-degrees.ensures _ (everybody_here _ (omega (arith, p.0.few_operators, p.0.few_rides))) in
-    (tabulated _ _ _ _ _ read.tables read.degrees, p.1, p.2)
+pub invariant_of-source : goal.invariant_of-source
+invariant_of-source c = let p = c.args.table.accepted in
+    let read = c.tabulate-degrees.ensures _ (everybody_here _ (omega (arith, p.few_operators, p.few_rides))) in
+    record { tabulated = tabulated _ _ _ _ _ read.tables read.degrees }
 
-pub returns-then-alpha-h : goal.returns-then-alpha-h
-returns-then-alpha-h c =
-    let p = c.requires.accepted_pairs.0 in
-    c.fill_row.ensures ∙ held_row (graph c.args.h c.args.operators.now c.args.rides.now) _ _ (c.tabulate-degrees.ensures _ (everybody_here _ (omega (arith, p.few_operators, p.few_rides)))).tables c.args.alpha
+pub returns-then-alpha-table : goal.returns-then-alpha-table
+returns-then-alpha-table c =
+    let t = c.args.table in
+    let p = t.accepted in
+    c.fill_row.ensures ∙ held_row (graph t.head t.operators.now t.rides.now) _ _ (c.tabulate-degrees.ensures _ (everybody_here _ (omega (arith, p.few_operators, p.few_rides)))).tables c.args.alpha
 
-pub returns-else-alpha-h : goal.returns-else-alpha-h
-returns-else-alpha-h c =
+pub returns-else-alpha-table : goal.returns-else-alpha-table
+returns-else-alpha-table c =
     let a = c.args in
-    row_above (graph a.h a.operators.now a.rides.now) a.alpha c.if-alpha-h.false a.row.now c.requires.accepted_pairs.2 c.requires.by_index
+    row_above (graph a.table.head a.table.operators.now a.table.rides.now) a.alpha c.if-alpha-table.false a.row.now c.requires.row.1 c.requires.zeros

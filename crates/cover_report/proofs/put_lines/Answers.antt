@@ -10,11 +10,11 @@ use Rattle.cover_report.proofs.put_lines.Goals as goal
 
 pub fill_levels-requires : goal.fill_levels-requires
 fill_levels-requires c =
-    record { accepted_pairs = (c.requires.accepted_pairs.0, omega (arith, c.row.ensures), c.requires.accepted_pairs.1); by_index = c.requires.by_index }
+    record { row = (omega (arith, c.row.ensures), c.requires.row.0); zeros = c.requires.zeros }
 
 pub returns : goal.returns
 returns c =
     let a = c.args in
     wrote_text
-    (report_row a.h a.operators.now a.rides.now a.alpha a.beta _ (c.fill_levels.ensures ∙ ap (λ (k : ℕ). row (graph a.h a.operators.now a.rides.now) k) c.row.ensures))
+    (report_row a.table.head a.table.operators.now a.table.rides.now a.alpha a.beta _ (c.fill_levels.ensures ∙ ap (λ (k : ℕ). row (graph a.table.head a.table.operators.now a.table.rides.now) k) c.row.ensures))
     c.put_cover.ensures

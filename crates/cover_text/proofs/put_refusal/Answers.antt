@@ -6,4 +6,5 @@ use Rattle.cover_text.proofs.put_refusal.Goals as goal
 pub returns : goal.returns
 unfolding refusal_line
 returns c =
-    wrote_append c.put_bytes-named.ensures c.put_field.ensures
+    rw (← c.number.ensures)
+    (wrote_append c.put_bytes-named.ensures c.put_field.ensures)

@@ -1,11 +1,7 @@
 -- `crowd_bands::overlap` meets its contract. The loop's invariant: none of the first i bands shares a guest count with one before it.
-use Prim.Native.Nat.{◌≤◌, ◌-◌}
 use Rattle.crowd_bands.specs.Bands.{shares_earlier}
 use Rattle.model.proofs.Search.{NoneBefore}
 use Rattle.crowd_bands.proofs.overlap.Given as goal
 
 abbrev pub invariant-loop-i : goal.invariant-loop-i
-invariant-loop-i l = (l.i ≤ l.n) × NoneBefore (shares_earlier l.words) l.i
-
-abbrev pub decreases-loop-i : goal.decreases-loop-i
-decreases-loop-i l = l.n - l.i
+invariant-loop-i l = NoneBefore (shares_earlier l.bands) l.i

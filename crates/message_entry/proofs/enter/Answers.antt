@@ -1,27 +1,25 @@
--- `message_entry::enter` meets its contract: the kind says what the message is entered for.
+-- `message_entry::enter` meets its contract: the slot says what the message is entered for.
 use native.Mathlib.Omega.{arith}
-use Rattle.model.specs.Layout.{Operators, Rides, PresenceStamps, PresenceRevisions, Presence, lent}
+use Prim.Native.Nat.{◌≤◌}
+use Rattle.model.specs.Layout.{Operators, Rides, PresenceStamps, PresenceRevisions, Presence}
+use Rattle.part_board.specs.Lent.{mut_board}
+use Rattle.refusal_message.proofs.Message.{pair_kind, other_kind}
 use Rattle.message_entry.proofs.Entering.{node_within, node_entered}
-use Rattle.message_entry.proofs.Next.{enters_any}
 use Rattle.message_entry.proofs.enter.Goals as goal
 
 pub enter_pair-requires : goal.enter_pair-requires
-enter_pair-requires c = ((_, _, _, _, c.requires.1), c.if-message-le2.true)
-
-pub returns-then-message-le2 : goal.returns-then-message-le2
-returns-then-message-le2 c = let a = c.args in
-    λ index. c.enter_pair.ensures index a.presence_stamps.now a.presence_revisions.now a.presence.now (enters_any (lent a.head a.operators.now a.rides.now a.stamps.now a.revisions.now c.requires.0 a.presence_stamps.now a.presence_revisions.now a.presence.now) index a.message c.requires.1)
+enter_pair-requires c = record { ready = c.requires; pair = pair_kind c.args.message _ _ c.in-Pair.ensures }
 
 pub store-requires : goal.store-requires
-store-requires c = let r = c.requires.1 in
-    let k = c.if-message-le2.false in
-    let w = node_within _ c.args.message r k in
-    (k, omega (arith, w, r.room.long PresenceStamps tt), omega (arith, w, r.room.long PresenceRevisions tt), omega (arith, w, r.room.long Presence tt))
+store-requires c = let long = c.requires.room.long in
+    let k : 3 ≤ c.args.message.kind = other_kind c.args.message _ c.from.ensures c.in_default.not-Pair in
+    let w = node_within (mut_board c.args.board.now) c.args.message c.requires k in
+    record { stamps = omega (arith, w, long PresenceStamps tt); revisions = omega (arith, w, long PresenceRevisions tt); words = omega (arith, w, long Presence tt) }
 
 pub clear_tails-requires : goal.clear_tails-requires
-clear_tails-requires c = let r = c.requires.1.room in (r.pairs, r.long Operators tt, r.long Rides tt)
+clear_tails-requires c = let r = c.requires.room in (r.pairs, r.long Operators tt, r.long Rides tt)
 
-pub returns : goal.returns
-returns c = let a = c.args in
-    λ index. let b = lent a.head a.operators.now a.rides.now a.stamps.now a.revisions.now index a.presence_stamps.now a.presence_revisions.now a.presence.now in
-    node_entered b a.message (enters_any (lent a.head a.operators.now a.rides.now a.stamps.now a.revisions.now c.requires.0 a.presence_stamps.now a.presence_revisions.now a.presence.now) index a.message c.requires.1) c.if-message-le2.false _ _ _ _ _ c.store.ensures c.clear_tails.ensures
+pub returns-in_default-clause-done : goal.returns-in_default-clause-done
+returns-in_default-clause-done c = let s = c.store.ensures in
+    let k : 3 ≤ c.args.message.kind = other_kind c.args.message _ c.from.ensures c.in_default.not-Pair in
+    node_entered (mut_board c.args.board.now) c.args.message c.requires k _ _ _ _ _ (s.stamps, s.revisions, s.words) c.clear_tails.ensures

@@ -1,5 +1,5 @@
 -- `pairs::count_misplaced` meets its contract. The loop's invariant: sum counts those of the first i pairs that are misplaced.
-use mathlib.Core.Path.{◌≡◌, refl, ap}
+use mathlib.Core.Path.{◌≡◌, ap}
 use Prim.Native.Nat.{◌+◌}
 use native.Mathlib.Omega.{arith}
 use Rattle.model.specs.Count.{bit, count}
@@ -10,14 +10,14 @@ use Rattle.pairs.proofs.count_misplaced.Goals as goal
 
 pub loop-i-init : goal.loop-i-init
 unfolding count
-loop-i-init c = (refl, omega arith, omega arith, omega (arith, ap bit c.requires.3))
+loop-i-init c = (omega arith, omega (arith, ap bit c.requires.3))
 
 pub overflow_add-sum : goal.overflow_add-sum
 overflow_add-sum c = let l = c.loop-i in
     let a = c.args in
     omega (
       arith,
-      l.invariant.3,
+      l.invariant.1,
       c.misplaced-sum.ensures,
       misplaced_more a.head a.operators.now a.rides.now l.i (omega arith),
       count_le (misplaced a.head a.operators.now a.rides.now) (l.i + 1),
@@ -25,13 +25,9 @@ overflow_add-sum c = let l = c.loop-i in
 
 pub loop-i-preserved : goal.loop-i-preserved
 loop-i-preserved c = let l = c.loop-i in
-    let a = c.args in (
-      refl,
-      omega arith,
-      omega arith,
-      omega (arith, l.invariant.3, c.misplaced-sum.ensures, misplaced_more a.head a.operators.now a.rides.now l.i (omega arith)),
-    )
+    let a = c.args in
+    (omega arith, omega (arith, l.invariant.1, c.misplaced-sum.ensures, misplaced_more a.head a.operators.now a.rides.now l.i (omega arith)))
 
 pub returns : goal.returns
 returns c = let l = c.loop-i in
-    let e : l.i ≡ c.args.head.pairs = omega arith in rw e at l.invariant.3
+    let e : l.i ≡ c.args.head.pairs = omega arith in rw e at l.invariant.1

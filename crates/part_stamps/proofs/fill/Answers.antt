@@ -11,8 +11,8 @@ use Rattle.part_stamps.proofs.fill.Goals as goal
 
 pub stamp_pairs-requires : goal.stamp_pairs-requires
 stamp_pairs-requires c = let a = c.args in
-    record { accepted_pairs = (c.requires.0, omega (arith, c.requires.1)); by_index = λ k l. ap (λ (x : List ℕ). get_or x k 0) c.fill_stamps.ensures ∙ filled_at a.stamps.now 0 0 (pair_places a.head) (omega arith) c.requires.1 k (omega arith) l }
+    record { places = omega arith; by_index = λ k l. ap (λ (x : List ℕ). get_or x k 0) c.fill.ensures ∙ filled_at a.stamps.now 0 0 (pair_places a.table.head) (omega arith) c.requires k (omega arith) l }
 
 pub returns : goal.returns
 returns c = let a = c.args in
-    stamps_filled a.head a.operators.now a.rides.now a.start a.stamps.now _ _ c.requires.1 (omega arith) (ap (drop (pair_places a.head)) c.fill_stamps.ensures ∙ filled_rest a.stamps.now 0 0 (pair_places a.head) (omega arith) c.requires.1) c.stamp_pairs.ensures
+    stamps_filled a.table.head a.table.operators.now a.table.rides.now a.start a.stamps.now _ _ c.requires (omega arith) (ap (drop (pair_places a.table.head)) c.fill.ensures ∙ filled_rest a.stamps.now 0 0 (pair_places a.table.head) (omega arith) c.requires) c.stamp_pairs.ensures

@@ -8,11 +8,11 @@ use Rattle.peel_pairs.proofs.peel_over.Goals as goal
 pub peel_tables-requires : goal.peel_tables-requires
 peel_tables-requires c = let a = c.args in
     let read = c.tabulate-degrees.ensures _ c.present_and_marked-here.ensures in
-    ((_, marked_ready a.head a.operators.now a.rides.now a.presence.now a.marks.now c.requires.5 _ _ read.degrees, read.tables), omega (arith, c.requires.4))
+    ((_, marked_ready a.table.head a.table.operators.now a.table.rides.now a.presence.now a.marks.now c.requires.4 _ _ read.degrees, read.tables), omega (arith, c.requires.3))
 
 pub returns : goal.returns
 returns c = let a = c.args in
     let read = c.tabulate-degrees.ensures _ c.present_and_marked-here.ensures in
-    let p = c.peel_tables.ensures _ (marked_ready a.head a.operators.now a.rides.now a.presence.now a.marks.now c.requires.5 _ _ read.degrees) read.tables in
-    let e = marked_peeled a.head a.operators.now a.rides.now a.presence.now a.marks.now _ _ c.fill.ensures a.steps in
+    let p = c.peel_tables.ensures _ (marked_ready a.table.head a.table.operators.now a.table.rides.now a.presence.now a.marks.now c.requires.4 _ _ read.degrees) read.tables in
+    let e = marked_peeled a.table.head a.table.operators.now a.table.rides.now a.presence.now a.marks.now _ _ c.fill.ensures a.steps in
     record { answer = p.answer ∙ ap (λ (o : PeelOutcome). o.answer) e; marks = p.marks ∙ ap (λ (o : PeelOutcome). o.marks) e }

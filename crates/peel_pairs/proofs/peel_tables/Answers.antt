@@ -1,7 +1,6 @@
 -- `peel_pairs::peel_tables` meets its contract.
 use borrow.Author.Rules.{rules}
 use mathlib.Core.Path.{◌≡◌}
-use native.Mathlib.Omega.{arith}
 use lib.ListN.{length}
 use Rattle.peel_pairs.proofs.Whole.{first_state, peel_gives}
 use Rattle.peel_pairs.proofs.peel_tables.Goals as goal
@@ -10,13 +9,6 @@ pub run-last-requires : goal.run-last-requires
 run-last-requires c = let p = c.requires.0 in
     let o = p.1 in
     ((p.0, _, p.2, first_state p.0 _ _ _ _ o _ _ p.2 _ _ _ (let q : length c.joined-all.result ≡ 260 = search rules in q) (c.joined-all.ensures p.0 o.operators o.rides o.degrees) (let q : length c.bytes-bytes.result ≡ 260 = search rules in q) c.bytes-bytes.ensures _ c.start-first.ensures), c.start-first.ensures.steps)
-
-pub is_settled-requires : goal.is_settled-requires
-is_settled-requires c =
-    let p = c.requires.0 in
-    let o = p.1 in
-    let w = (c.run-last.ensures p.0 _ p.2 (first_state p.0 _ _ _ _ o _ _ p.2 _ _ _ (let q : length c.joined-all.result ≡ 260 = search rules in q) (c.joined-all.ensures p.0 o.operators o.rides o.degrees) (let q : length c.bytes-bytes.result ≡ 260 = search rules in q) c.bytes-bytes.ensures _ c.start-first.ensures)).state.held.remaining in
-    omega (arith, w.operators_are, w.rides_are, p.2.by_ride.wide, p.2.by_operator.wide)
 
 pub returns : goal.returns
 returns c =

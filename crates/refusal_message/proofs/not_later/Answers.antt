@@ -1,26 +1,26 @@
--- `refusal_message::not_later` meets its contract: the kind says whose last it is.
+-- `refusal_message::not_later` meets its contract: the slot says whose last it is.
 use mathlib.Core.Path.{subst}
+use Prim.Native.Nat.{◌≤◌}
 use native.Mathlib.Omega.{arith}
 use Rattle.model.proofs.Refusal.{slot_pair, Within, valid_none}
 use Rattle.part_presence.proofs.Presence.{place_within}
+use Rattle.refusal_message.proofs.Message.{pair_kind, other_kind}
 use Rattle.refusal_message.proofs.not_later.Goals as goal
 
 pub not_later-requires : goal.not_later-requires
 not_later-requires c = let a = c.args in
-    let r = c.requires.0 in
-    let w = subst (Within a.head) (slot_pair a.message c.if-message-le2.true) (valid_none a.head a.message c.requires.1).within in
-    (r.pairs, r.stamps_long, r.revisions_long, w.0, w.1, c.if-message-le2.true)
+    let r = c.requires.ready in
+    let k : a.message.kind ≤ 2 = pair_kind a.message _ _ c.in-Pair.ensures in
+    let w = subst (Within a.board.head) (slot_pair a.message k) (valid_none a.board.head a.message c.requires.valid).within in
+    (r.stamps_long, r.revisions_long, w.0, w.1, k)
 
-pub returns-then-message-le2 : goal.returns-then-message-le2
-returns-then-message-le2 c = let a = c.args in
-    λ index. c.not_later.ensures index a.presence_stamps.now a.presence_revisions.now a.presence.now
+pub not_later-requires-in_default : goal.not_later-requires-in_default
+not_later-requires-in_default c = let a = c.args in
+    let r = c.requires.ready in
+    let k : 3 ≤ a.message.kind = other_kind a.message _ c.from.ensures c.in_default.not-Pair in
+    let l = place_within a.board.head a.message k (valid_none a.board.head a.message c.requires.valid).within in
+    record { kind = k; stamps = omega (arith, l, r.presence_stamps_long); revisions = omega (arith, l, r.presence_revisions_long); words = omega (arith, l, r.presence_long) }
 
-pub not_later-requires-2 : goal.not_later-requires-2
-not_later-requires-2 c = let a = c.args in
-    let r = c.requires.0 in
-    let l = place_within a.head a.message c.if-message-le2.false (valid_none a.head a.message c.requires.1).within in
-    (c.if-message-le2.false, omega (arith, l, r.presence_stamps_long), omega (arith, l, r.presence_revisions_long), omega (arith, l, r.presence_long))
-
-pub returns : goal.returns
-returns c = let a = c.args in
-    λ index. c.not_later-2.ensures a.operators.now a.rides.now a.stamps.now a.revisions.now index
+pub returns-in-Pair : goal.returns-in-Pair
+returns-in-Pair c = let b = c.args.board in
+    c.not_later.ensures b.index.now b.presence_stamps.now b.presence_revisions.now b.presence.now

@@ -1,40 +1,28 @@
 -- `refusal_table::short_board` meets its contract: 3 of a board, part by part.
 use native.Mathlib.Omega.{arith}
-use Rattle.model.specs.Layout.{Operators, Rides, Stamps, Revisions, Index, PresenceStamps, PresenceRevisions, Presence}
-use Rattle.model.proofs.Parts.{by_part}
+use mathlib.Core.Path.{◌≡◌, ◌∙◌}
+use lib.Dec.{ltb}
+use lib.ListN.{length}
+use Rattle.model.specs.Layout.{mark_places}
+use Rattle.std.proofs.lemmas.Grind.{common_steps}
 use Rattle.pairs.proofs.Place.{product_fits}
-use Rattle.refusal_table.proofs.Chain.{short_at, short_nowhere}
+use Rattle.part_board.specs.Lent.{ref_board}
+use Rattle.refusal_table.proofs.Chain.{parts_short, short_parts}
 use Rattle.refusal_table.proofs.short_board.Goals as goal
 
 pub overflow_mul-places : goal.overflow_mul-places
-overflow_mul-places c = let a = c.args in omega (arith, product_fits a.head.operators a.head.rides (omega arith) (omega arith))
-
-pub returns-then-operators-places : goal.returns-then-operators-places
-returns-then-operators-places c = short_at _ Operators (omega arith)
-
-pub returns-then-rides-places : goal.returns-then-rides-places
-returns-then-rides-places c = short_at _ Rides (omega arith)
-
-pub returns-then-stamps-places : goal.returns-then-stamps-places
-returns-then-stamps-places c = short_at _ Stamps (omega arith)
-
-pub returns-then-revisions-places : goal.returns-then-revisions-places
-returns-then-revisions-places c = short_at _ Revisions (omega arith)
+overflow_mul-places c = let h = c.args.board.head in omega (arith, product_fits h.operators h.rides (omega arith) (omega arith))
 
 pub overflow_mul-m : goal.overflow_mul-m
-overflow_mul-m c = let a = c.args in omega (arith, product_fits a.head.operators a.head.rides (omega arith) (omega arith), product_fits a.head.rides a.head.rides (omega arith) (omega arith))
+overflow_mul-m c = let h = c.args.board.head in omega (arith, product_fits h.operators h.rides (omega arith) (omega arith), product_fits h.rides h.rides (omega arith) (omega arith))
 
-pub returns-then-index-m : goal.returns-then-index-m
-returns-then-index-m c = short_at _ Index (omega arith)
+pub returns-then-board-n-2 : goal.returns-then-board-n-2
+returns-then-board-n-2 c =
+    let e : c.if-board-n.value ≡ parts_short (ref_board c.args.board) = grind (arith, common_steps) in
+    e ∙ short_parts (ref_board c.args.board)
 
-pub returns-then-presence_stamps-n : goal.returns-then-presence_stamps-n
-returns-then-presence_stamps-n c = short_at _ PresenceStamps (omega arith)
-
-pub returns-then-presence_revisions-n : goal.returns-then-presence_revisions-n
-returns-then-presence_revisions-n c = short_at _ PresenceRevisions (omega arith)
-
-pub returns-then-presence-n : goal.returns-then-presence-n
-returns-then-presence-n c = short_at _ Presence (omega arith)
-
-pub returns : goal.returns
-returns c = short_nowhere _ (by_part _ (omega arith) (omega arith) (omega arith) (omega arith) (omega arith) (omega arith) (omega arith) (omega arith))
+pub returns-else-board-n-2 : goal.returns-else-board-n-2
+returns-else-board-n-2 c =
+    let b = c.args.board in
+    let e : ltb (length b.presence.now) (mark_places b.head) ≡ parts_short (ref_board b) = grind (arith, common_steps) in
+    e ∙ short_parts (ref_board b)
