@@ -4,7 +4,7 @@ use mathlib.Core.List.{List, [], ◌∷◌, ◌++◌, append_assoc}
 use Prim.Native.Nat.{ℕ, suc, ◌+◌, ◌-◌, ◌≤◌, ◌<◌}
 use native.Mathlib.Numerals.{add-one}
 use native.Mathlib.Omega.{arith}
-use lib.ListN.{length, get_or, set, take, drop, replicate, get_or-replicate, get_or-append, length-append, length-drop, length-replicate, replicate-append-replicate, take-append-drop}
+use lib.ListN.{length, get_or, set, take, drop, replicate, get_or-replicate, get_or-append, length-append, length-drop, length-replicate, replicate-append-replicate}
 use lib.Seq.{drop_at, length-take-le, get_or-append-add, drop-cons, append_snoc, set_at}
 use Rattle.arrays.specs.Filled.{filled}
 
@@ -16,10 +16,6 @@ module _ {A : Type 0} (l : List A) (from : ℕ) (value : A) where
   pub length_front : (i : ℕ) → from ≤ i → i ≤ length l → length (front i) ≡ i
   length_front i h b =
       omega (arith, length-append (take from l) (replicate (i - from) value), length-take-le from l (omega arith), length-replicate (i - from) value)
-
-  pub fill_none : l ≡ front from ++ drop from l
-  fill_none =
-      sym (ap (λ (n : ℕ). (take from l ++ replicate n value) ++ drop from l) (let e : from - from ≡ 0 = omega arith in e) ∙ append_assoc (take from l) [] (drop from l) ∙ take-append-drop from l)
 
   front_more : (i : ℕ) → from ≤ i → front i ++ (value ∷ []) ≡ front (i + 1)
   front_more i h =
@@ -35,11 +31,7 @@ module _ {A : Type 0} (l : List A) (from : ℕ) (value : A) where
       ap₂ (λ (x : List A) (n : ℕ). x ++ drop n l) (front_more i h) (sym (add-one i))
 
   module _ (to : ℕ) (h : from ≤ to) (b : to ≤ length l) where
-    pub fill_done : (i : ℕ) → i ≡ to → front i ++ drop i l ≡ filled from to value l
-    fill_done i e =
-        ap (λ (n : ℕ). front n ++ drop n l) e ∙ ap (λ (n : ℕ). front to ++ drop n l) (sym (length_front to h b))
-
-    -- and behind them all is as it came
+    -- behind the places all is as it came
     pub filled_rest : drop to (filled from to value l) ≡ drop to l
     filled_rest = drop_at (front to) (drop (length (front to)) l) to (length_front to h b) ∙ ap (λ (n : ℕ). drop n l) (length_front to h b)
 

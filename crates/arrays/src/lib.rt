@@ -2,8 +2,8 @@
 // marks counted.
 #![tactic(auto)]
 
-ghost use Rattle.std.specs.Prelude.{◌≡◌, not, ◌++◌, ℕ, ◌≤◌, ◌<◌, eqb, ltb, length, get_or, take, drop};
-ghost use Rattle.model.specs.Count.{bit, count};
+ghost use Rattle.std.specs.Prelude.{◌≡◌, not, ◌++◌, ℕ, ◌≤◌, ◌<◌, eqb, length, get_or, take, drop};
+ghost use Rattle.model.specs.Count.{count};
 ghost use Rattle.model.specs.Graph.{marked};
 ghost use Rattle.model.specs.Layout.{differing};
 ghost use Rattle.arrays.specs.Filled.{filled};
@@ -13,8 +13,8 @@ pub fn fill<T: Copy>(items: &mut [T], from: usize, to: usize, value: T)
     requires { (from ≤ to) × (to ≤ length items.old) }
     ensures { items.new ≡ filled from to value items.old }
 {
-    for x in from..to {
-        items[x] = value;
+    for item in &mut items[from..to] {
+        *item = value;
     }
 }
 
@@ -24,13 +24,6 @@ pub fn copy<T: Copy>(from: &[T], to: &mut [T], n: usize)
     ensures { to.new ≡ take n from.now ++ drop n to.old }
 {
     to[..n].copy_from_slice(&from[..n]);
-}
-
-// 1 where a byte is below another.
-pub fn below(a: u8, b: u8) -> u8
-    ensures { result ≡ bit (ltb a b) }
-{
-    u8::from(a < b)
 }
 
 // Stores a row, and counts the words that differ.
@@ -52,9 +45,5 @@ pub fn count_marks(marks: &[u16]) -> u16
     requires by_index { (i : ℕ) → i < length marks.now → get_or marks.now i 0 ≤ 1 }
     ensures { result ≡ count (length marks.now) (marked marks.now) }
 {
-    let mut count = 0;
-    for mark in marks {
-        count += *mark;
-    }
-    count
+    marks.iter().sum()
 }

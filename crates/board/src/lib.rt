@@ -53,13 +53,7 @@ pub extern "C" fn board_build(
 fn answer_of(delivered: Result<u16, Refusal>) -> Answer
     ensures { (b : Board) → answered result b ≡ outcome_of delivered b }
 {
-    match delivered {
-        Ok(differ) => Answer { code: 0, differ },
-        Err(refusal) => Answer {
-            code: refusal.number(),
-            differ: 0,
-        },
-    }
+    delivered.map_or_else(Answer::from, |differ| Answer { code: 0, differ })
 }
 
 // Marks who is present and in cover (alpha, beta) by the levels of the index, and answers the counts of operators and rides marked.

@@ -6,6 +6,7 @@ ghost use Rattle.model.specs.Crowd.{board_crowd_cover};
 ghost use Rattle.model.specs.Outcome.{queried};
 ghost use Rattle.refusal_kind.specs.Told.{counts_of};
 
+use limits::Asked;
 use limits_cover_pairs::cover_present;
 use model::{Bands, Counts, Head};
 use refusal_kind::Refusal;
@@ -28,5 +29,11 @@ pub fn crowd_cover(
 {
     let table = check_lent(head, operators, rides, presence, minimums, marks)?;
     let limits = crowd_bands::find(&bands, guests)?;
-    Ok(cover_present(table, presence, minimums, limits.alpha, limits.beta, marks))
+    let asked = Asked {
+        presence,
+        minimums,
+        alpha: limits.alpha,
+        beta: limits.beta,
+    };
+    Ok(cover_present(table, asked, marks))
 }

@@ -6,6 +6,7 @@ ghost use Rattle.model.specs.Calls.{board_own_cover};
 ghost use Rattle.model.specs.Outcome.{queried};
 ghost use Rattle.refusal_kind.specs.Told.{counts_of};
 
+use limits::Asked;
 use limits_cover_pairs::cover_present;
 use model::{Counts, Head};
 use refusal_kind::Refusal;
@@ -27,5 +28,11 @@ pub fn own_cover(
         marks.old }
 {
     let table = check_lent(head, operators, rides, presence, minimums, marks)?;
-    Ok(cover_present(table, presence, minimums, alpha, beta, marks))
+    let asked = Asked {
+        presence,
+        minimums,
+        alpha,
+        beta,
+    };
+    Ok(cover_present(table, asked, marks))
 }

@@ -3,7 +3,6 @@ use mathlib.Core.Path.{◌≡◌, refl, sym, ap₂, subst}
 use mathlib.Core.Logic.{◌≢◌}
 use mathlib.Core.List.{List, [], ◌∷◌}
 use Prim.Native.Nat.{ℕ, zero, suc, ◌≤◌}
-use native.Mathlib.Omega.{arith}
 use lib.ListN.{length}
 use Rattle.model.specs.declared.Head.{Head}
 use Rattle.model.specs.declared.Peeled.{Peeled}
@@ -36,7 +35,7 @@ module _ (h : Head) (operators rides presence minimums marks : List ℕ) where
     unfolding peel_refusal
     accepted = lent_accepted h operators rides presence minimums marks ((12, refused_12 h marks) ∷ []) none
 
-    pub peel_long : (h' : Head) → h' ≡ h → (mark_places h' ≤ length presence) × (h'.rides ≤ length minimums) × (mark_places h' ≤ 260) × (mark_places h' ≤ length marks)
+    pub peel_long : (h' : Head) → h' ≡ h → (mark_places h' ≤ length presence) × (h'.rides ≤ length minimums) × (mark_places h' ≤ length marks)
     peel_long h' same =
-        subst (λ (x : Head). (mark_places x ≤ length presence) × (x.rides ≤ length minimums) × (mark_places x ≤ 260) × (mark_places x ≤ length marks)) (sym same)
-        (accepted.1, accepted.2, omega (arith, accepted.0.few_operators, accepted.0.few_rides), accepted.3)
+        subst (λ (x : Head). (mark_places x ≤ length presence) × (x.rides ≤ length minimums) × (mark_places x ≤ length marks)) (sym same)
+        (accepted.1, accepted.2, accepted.3)

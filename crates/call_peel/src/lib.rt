@@ -1,4 +1,4 @@
-// A peel: refused, or marks are cleared, over new tables.
+// A peel: refused, or marks are cleared.
 #![tactic(auto)]
 
 ghost use Rattle.std.specs.Prelude.{◌≡◌};
@@ -6,6 +6,7 @@ ghost use Rattle.model.specs.Calls.{board_peel};
 ghost use Rattle.model.specs.Outcome.{peel_left};
 ghost use Rattle.refusal_kind.specs.Told.{peeled_of};
 
+use limits::Asked;
 use model::{Head, Peeled};
 use refusal_kind::Refusal;
 use refusal_peel::check_peel;
@@ -27,19 +28,11 @@ pub fn peel(
         steps }
 {
     let table = check_peel(head, operators, rides, presence, minimums, marks)?;
-    let mut by_operator = [0u8; 12000];
-    let mut by_ride = [0u8; 12000];
-    let mut limits = [0u16; 260];
-    Ok(peel_pairs::peel_over(
-        table,
+    let asked = Asked {
         presence,
         minimums,
-        &mut by_operator,
-        &mut by_ride,
-        &mut limits,
-        marks,
         alpha,
         beta,
-        steps,
-    ))
+    };
+    Ok(peel_pairs::peel_over(table, asked, marks, steps))
 }

@@ -40,8 +40,14 @@ fn fill_levels(table: PairTable<'_>, alpha: u16, row: &mut [u16])
 }
 
 // The lines of the cover, from a row of zeros that becomes row α, or row 1 for α = 0.
-fn put_lines(out: &mut [u8], table: PairTable<'_>, alpha: u16, beta: u16, row: &mut [u16]) -> usize
-    requires row { (length row.old ≡ mark_places table.head) × (5490 ≤ length out.old) }
+fn put_lines(
+    out: &mut [u8; 8192],
+    table: PairTable<'_>,
+    alpha: u16,
+    beta: u16,
+    row: &mut [u16],
+) -> usize
+    requires row { length row.old ≡ mark_places table.head }
     requires zeros { (k : ℕ) → get_or row.old k 0 ≡ 0 }
     ensures { Wrote out.old 0 (cover_lines table.entry.head table.entry.operators.now table.entry.rides.now alpha beta) 5490 out.new result }
 {
@@ -59,14 +65,14 @@ fn put_lines(out: &mut [u8], table: PairTable<'_>, alpha: u16, beta: u16, row: &
 
 // The answer for the words of a pair table.
 fn answer_table(
-    out: &mut [u8],
+    out: &mut [u8; 8192],
     head: Head,
     operators: &[u16],
     rides: &[u16],
     alpha: u16,
     beta: u16,
 ) -> usize
-    requires { Sizes head × (length operators.now ≡ head.pairs) × (length rides.now ≡ head.pairs) × (5490 ≤ length out.old) }
+    requires { Sizes head × (length operators.now ≡ head.pairs) × (length rides.now ≡ head.pairs) }
     ensures { Wrote out.old 0 (table_text head operators.now rides.now alpha beta) 5490 out.new result }
 {
     if !pairs::ascending(head, operators, rides) {
@@ -83,8 +89,8 @@ fn answer_table(
 }
 
 // The answer for an input, with its head, once the sizes are checked.
-fn answer_input(out: &mut [u8], input: &[u8], head: Head) -> usize
-    requires { Sizes head × (length input.now ≡ 10 + 4 * head.pairs) × (5490 ≤ length out.old) }
+fn answer_input(out: &mut [u8; 8192], input: &[u8], head: Head) -> usize
+    requires { Sizes head × (length input.now ≡ 10 + 4 * head.pairs) }
     ensures { Wrote out.old 0 (input_text input.now head) 5490 out.new result }
 {
     let n = head.pairs as usize;
@@ -97,20 +103,12 @@ fn answer_input(out: &mut [u8], input: &[u8], head: Head) -> usize
     answer_table(out, head, &operators[0..n], &rides[0..n], alpha, beta)
 }
 
-// The output of `cover` for an input, in a buffer with room for the longest.
-fn answer(out: &mut [u8], input: &[u8]) -> usize
-    requires { 5490 ≤ length out.old }
+// The output of `cover` for an input, at the start of `out`, and its length.
+pub fn cover_text(input: &[u8], out: &mut [u8; 8192]) -> usize
     ensures { Reported input.now out.old out.new result }
 {
     match cover_input::check_size(input) {
         Ok(head) => answer_input(out, input, head),
         Err(refusal) => cover_text::put_refusal(out, 0, refusal),
     }
-}
-
-// The output of `cover` for an input, at the start of `out`, and its length.
-pub fn cover_text(input: &[u8], out: &mut [u8; 8192]) -> usize
-    ensures { Reported input.now out.old out.new result }
-{
-    answer(out, input)
 }

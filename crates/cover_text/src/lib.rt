@@ -8,6 +8,7 @@ ghost use Rattle.refusal_kind.specs.Number.{number};
 
 use refusal_kind::Refusal;
 
+// Stores a text.
 fn put_bytes(out: &mut [u8], at: usize, text: &[u8]) -> usize
     requires { at + length text.now ≤ length out.old }
     ensures { Wrote out.old at text.now (length text.now) out.new result }
@@ -17,7 +18,7 @@ fn put_bytes(out: &mut [u8], at: usize, text: &[u8]) -> usize
     end
 }
 
-// The digits before the last are those of n / 10.
+// Stores a number in decimal: the digits of n / 10, then the last one.
 fn put_number(out: &mut [u8], at: usize, n: u16) -> usize
     requires { at + 5 ≤ length out.old }
     ensures { Wrote out.old at (decimal n) 5 out.new result }
@@ -32,7 +33,7 @@ fn put_number(out: &mut [u8], at: usize, n: u16) -> usize
     last + 1
 }
 
-// A number and the byte after it.
+// Stores a number, and one byte after it.
 fn put_field(out: &mut [u8], at: usize, number: u16, after: u8) -> usize
     requires { at + 6 ≤ length out.old }
     ensures { Wrote out.old at (decimal number ++ (after ∷ [])) 6 out.new result }
@@ -42,6 +43,7 @@ fn put_field(out: &mut [u8], at: usize, number: u16, after: u8) -> usize
     end + 1
 }
 
+// Stores the line of an input that is refused.
 pub fn put_refusal(out: &mut [u8], at: usize, refusal: Refusal) -> usize
     requires { at + 14 ≤ length out.old }
     ensures { Wrote out.old at (refusal_line (number refusal)) 14 out.new result }
@@ -50,6 +52,7 @@ pub fn put_refusal(out: &mut [u8], at: usize, refusal: Refusal) -> usize
     put_field(out, named, refusal.number(), b'\n')
 }
 
+// Stores the first line of a cover.
 pub fn put_first(
     out: &mut [u8],
     at: usize,
@@ -68,6 +71,7 @@ pub fn put_first(
     put_field(out, third, rides, b'\n')
 }
 
+// Stores the line of a node: its name, its number and its level.
 pub fn put_node(out: &mut [u8], at: usize, name: &[u8], number: u16, level: u16) -> usize
     requires { (length name.now ≤ 9) × (at + 21 ≤ length out.old) }
     ensures { Wrote out.old at (node_line name.now number level) 21 out.new result }

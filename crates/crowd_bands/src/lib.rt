@@ -29,7 +29,7 @@ fn is_malformed(band: &Band) -> bool
 fn any_malformed(bands: &[Band]) -> bool
     ensures { result ≡ list_any malformed bands.now }
 {
-    bands.iter().any(|band| is_malformed(band))
+    bands.iter().any(is_malformed)
 }
 
 // Whether two bands share a guest count.
@@ -138,16 +138,12 @@ pub fn find(bands: &Bands, guests: u16) -> Result<Limits, Refusal>
 pub fn crowd_limits(bands: Bands, guests: u16) -> CrowdLimits
     ensures { result ≡ board_crowd_limits bands guests }
 {
-    match find(&bands, guests) {
-        Ok(limits) => CrowdLimits {
+    find(&bands, guests).map_or_else(
+        CrowdLimits::from,
+        |limits| CrowdLimits {
             code: 0,
             alpha: limits.alpha,
             beta: limits.beta,
         },
-        Err(refusal) => CrowdLimits {
-            code: refusal.number(),
-            alpha: 0,
-            beta: 0,
-        },
-    }
+    )
 }

@@ -1,8 +1,8 @@
-// The frames that the replay programs read, as reference/README.md lays them out: the words of a frame, one after another, its head and messages, and
-// a line of text for each call.
+// What the programs read and print. `cover` reads its input by it. The replay programs read frames, as reference/README.md lays them out: the words of
+// a frame, one after another, its head and messages; they print a line of text for each call.
 #![tactic(auto)]
 
-ghost use Rattle.std.specs.Prelude.{◌≤◌, ◌++◌, ◌∷◌, [], length, IfOk, OnOk};
+ghost use Rattle.std.specs.Prelude.{◌≤◌, ◌++◌, ◌∷◌, [], length, IfOk, IfSome, OnOk};
 ghost use Rattle.std.specs.Fmt.{decimal};
 ghost use Rattle.std.specs.Io.KnownBytes.{Appends};
 
@@ -64,26 +64,22 @@ fn fill<R: Read>(input: &mut R, buffer: &mut [u8]) -> io::Result<usize>
 pub fn count<R: Read>(input: &mut R) -> io::Result<Option<u16>> {
     let mut bytes = [0u8; 2];
     let read = fill(input, &mut bytes)?;
-    Ok(if read == 2 {
-        Some(u16::from_le_bytes(bytes))
-    } else {
-        None
-    })
+    Ok((read == 2).then(|| u16::from_le_bytes(bytes)))
 }
 
 // Reads so many bytes into the buffer, of those that there are.
-pub fn read<'a, R: Read>(
-    input: &mut R,
-    buffer: &'a mut [u8],
-    bytes: usize,
-) -> io::Result<&'a [u8]> {
+pub fn read<'a, R: Read>(input: &mut R, buffer: &'a mut [u8], bytes: usize) -> io::Result<&'a [u8]>
+    ensures { IfOk result (λ s. length s.now ≤ length buffer.old) }
+{
     let room = bytes.min(buffer.len());
     let n = fill(input, &mut buffer[..room])?;
     Ok(&buffer[..n])
 }
 
 // Reads the next frame into the buffer, if there is one. A count of 0 ends the stream.
-pub fn next<'a, R: Read>(input: &mut R, buffer: &'a mut [u8]) -> io::Result<Option<&'a [u8]>> {
+pub fn next<'a, R: Read>(input: &mut R, buffer: &'a mut [u8]) -> io::Result<Option<&'a [u8]>>
+    ensures { IfOk result (λ frame. IfSome frame (λ s. length s.now ≤ length buffer.old)) }
+{
     let words = count(input)?.unwrap_or(0);
     let frame = read(input, buffer, 2 * usize::from(words))?;
     Ok(if frame.is_empty() { None } else { Some(frame) })
@@ -124,28 +120,20 @@ impl<'a> Words<'a> {
     }
 
     pub fn head(&mut self) -> Head {
-        let operators = self.word();
-        let rides = self.word();
-        let pairs = self.word();
         Head {
-            operators,
-            rides,
-            pairs,
+            operators: self.word(),
+            rides: self.word(),
+            pairs: self.word(),
         }
     }
 
     pub fn message(&mut self) -> Message {
-        let kind = self.word();
-        let operator = self.word();
-        let ride = self.word();
-        let revision = self.word();
-        let stamp = self.long();
         Message {
-            kind,
-            operator,
-            ride,
-            revision,
-            stamp,
+            kind: self.word(),
+            operator: self.word(),
+            ride: self.word(),
+            revision: self.word(),
+            stamp: self.long(),
         }
     }
 }

@@ -1,4 +1,5 @@
-// The one reading of a pair table: its pairs that count fill the dense tables of clearances, and the degrees of the operators and of the rides.
+// The bytes of who is here, and the one reading of a pair table: its pairs that count fill the dense tables of clearances, and the degrees of the
+// operators and of the rides, which can be joined in one array.
 #![tactic(auto)]
 
 ghost use Rattle.std.specs.Prelude.{◌≡◌, Bool, ◌&&◌, ℕ, ◌+◌, ◌≤◌, ◌<◌, eqb, length, get_or};

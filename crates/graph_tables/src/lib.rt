@@ -1,4 +1,4 @@
-// A row of a dense table of clearances, subtracted from degrees.
+// The dense tables of clearances as they are lent, and the subtraction of one of their rows from degrees.
 #![tactic(auto)]
 
 ghost use Rattle.std.specs.Prelude.{◌≡◌, ℕ, ◌-◌, ◌<◌, ◌≤◌, length, get_or};

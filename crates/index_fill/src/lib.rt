@@ -4,7 +4,6 @@
 ghost use Rattle.std.specs.Prelude.{◌≡◌, ℕ, ◌+◌, ◌*◌, ◌<◌, ◌≤◌, length, get_or};
 ghost use Rattle.model.specs.Graph.{row as levels_row, index_of};
 ghost use Rattle.model.specs.Layout.{over, counting_graph, mark_places, index_places, differing};
-ghost use Rattle.graph_tables.specs.Table.{ZeroTables};
 ghost use Rattle.index_row.specs.Source.{graph_of};
 
 use graph_tables::ClearanceTables;
@@ -51,43 +50,6 @@ fn fill_rows(source: RowSource<'_>, high: u8, row: &mut [u16], index: &mut [u16]
     differ
 }
 
-// Fills the index over tables of zeros; the number of words that differ.
-fn fill_over(
-    table: PairTable<'_>,
-    presence: &[u16],
-    by_operator: &mut [u8],
-    by_ride: &mut [u8],
-    row: &mut [u16],
-    index: &mut [u16],
-) -> u16
-    requires { (mark_places table.head ≤ length presence.now) ×
-        ZeroTables by_operator.old by_ride.old ×
-        (length row.old ≡ 260) ×
-        (index_places table.head ≤ length index.old) }
-    ensures { (index.new
-        ≡ over (index_of (counting_graph table.entry.head table.entry.operators.now table.entry.rides.now presence.now)) index.old) ×
-        (result ≡ differing (index_places table.entry.head) index.old
-        (index_of (counting_graph table.entry.head table.entry.operators.now table.entry.rides.now presence.now))) }
-{
-    let n = table.head.operators as usize;
-    let m = table.head.rides as usize;
-    let w = n + m;
-    let here = graph_degrees::present(table.head, presence);
-    let degrees = graph_degrees::tabulate(table, &here, by_operator, by_ride);
-    let high = largest(&degrees.operators[0..n]);
-    let tables = ClearanceTables {
-        operators: n,
-        rides: m,
-        by_operator,
-        by_ride,
-    };
-    let source = RowSource {
-        tables,
-        degrees: &degrees,
-    };
-    fill_rows(source, high, &mut row[0..w], index)
-}
-
 // Fills the index of the pairs of a pair table that count; the number of words that differ before and after.
 pub fn fill_index(table: PairTable<'_>, presence: &[u16], index: &mut [u16]) -> u16
     requires { (mark_places table.head ≤ length presence.now) ×
@@ -97,15 +59,23 @@ pub fn fill_index(table: PairTable<'_>, presence: &[u16], index: &mut [u16]) -> 
         (result ≡ differing (index_places table.entry.head) index.old
         (index_of (counting_graph table.entry.head table.entry.operators.now table.entry.rides.now presence.now))) }
 {
+    let n = table.head.operators as usize;
+    let m = table.head.rides as usize;
+    let here = graph_degrees::present(table.head, presence);
     let mut by_operator = [0u8; 12000];
     let mut by_ride = [0u8; 12000];
+    let degrees = graph_degrees::tabulate(table, &here, &mut by_operator, &mut by_ride);
+    let high = largest(&degrees.operators[0..n]);
+    let tables = ClearanceTables {
+        operators: n,
+        rides: m,
+        by_operator: &by_operator,
+        by_ride: &by_ride,
+    };
+    let source = RowSource {
+        tables,
+        degrees: &degrees,
+    };
     let mut row = [0u16; 260];
-    fill_over(
-        table,
-        presence,
-        &mut by_operator,
-        &mut by_ride,
-        &mut row,
-        index,
-    )
+    fill_rows(source, high, &mut row[..n + m], index)
 }

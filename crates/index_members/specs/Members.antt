@@ -1,5 +1,5 @@
 -- Inner contracts: who is in a cover, from a row of levels.
-use Rattle.std.specs.Prelude.{Bool, List, ℕ, zero, suc, ◌+◌, max, leb, get_or}
+use Rattle.std.specs.Prelude.{List, ℕ, zero, suc, ◌+◌, max, get_or}
 
 -- the least level with which a node of this limit is in cover (α, β)
 abbrev pub least_level : ℕ → ℕ → ℕ
@@ -9,7 +9,3 @@ least_level (suc limit) β = max β 1
 -- the level of the node first + i in a row
 abbrev pub level_at : List ℕ → ℕ → ℕ → ℕ
 level_at levels first i = get_or levels (first + i) 0
-
--- whether that level is at least the given one
-abbrev pub member_at : ℕ → List ℕ → ℕ → ℕ → Bool
-member_at least levels first i = leb least (level_at levels first i)

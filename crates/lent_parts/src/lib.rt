@@ -4,30 +4,20 @@
 use frames::Words;
 
 // The numbers that a part has: words, or numbers of 32 bits.
-pub trait Number: Copy {
+pub trait Number: Copy + Into<u32> {
     // The next one of a frame.
     fn read(words: &mut Words<'_>) -> Self;
-
-    fn long(self) -> u32;
 }
 
 impl Number for u16 {
     fn read(words: &mut Words<'_>) -> u16 {
         words.word()
     }
-
-    fn long(self) -> u32 {
-        u32::from(self)
-    }
 }
 
 impl Number for u32 {
     fn read(words: &mut Words<'_>) -> u32 {
         words.long()
-    }
-
-    fn long(self) -> u32 {
-        self
     }
 }
 
@@ -65,13 +55,15 @@ impl<'a, T: Number> Part<'a, T> {
         }
     }
 
-    // Lends the part as the next words of a frame say, where the frame has the part.
-    pub fn load(&mut self, words: &mut Words<'_>, has: bool) {
+    // Lends nothing of the part.
+    pub fn clear(&mut self) {
         self.places = 0;
-        if has {
-            self.places = usize::from(words.word());
-            self.set(words);
-        }
+    }
+
+    // Lends the part as the next words of a frame say.
+    pub fn load(&mut self, words: &mut Words<'_>) {
+        self.places = usize::from(words.word());
+        self.set(words);
     }
 
     // The places lent, of those that there are.
@@ -90,7 +82,7 @@ impl<'a, T: Number> Part<'a, T> {
     pub fn checksum(&self, sum: u64) -> u64 {
         let mut h = sum;
         for i in 0..self.places {
-            h = add(h, self.memory.get(i).map_or(0, |number| number.long()));
+            h = add(h, self.memory.get(i).map_or(0, |number| (*number).into()));
         }
         h
     }

@@ -5,9 +5,18 @@ ghost use Rattle.std.specs.Prelude.{◌≡◌, true, false, ℕ, ◌+◌, ◌-�
 ghost use Rattle.model.specs.Graph.{present, ride_limit};
 ghost use Rattle.model.specs.Layout.{mark_places};
 ghost use Rattle.model.specs.Calls.{peel_limits};
-ghost use Rattle.limits.specs.Limits.{limit_of, byte_limit};
+ghost use Rattle.limits.specs.Limits.{limit_of, byte_limit, LongEnough};
 
 use model::Head;
+
+// What the limits of a peel or a cover are made from: the presence words, the rides' minimums, and the limits of operators and of rides.
+#[derive(Clone, Copy)]
+pub struct Asked<'a> {
+    pub presence: &'a [u16],
+    pub minimums: &'a [u16],
+    pub alpha: u16,
+    pub beta: u16,
+}
 
 // The limit of a node by its word: without a word of 1 it is the high one.
 fn node_limit(word: u16, limit: u16, high: u16) -> u16
@@ -46,27 +55,19 @@ fn fill_rides(presence: &[u16], minimums: &[u16], beta: u16, high: u16, limits: 
 
 // The limits of a peel (alpha, beta) with minimums: whoever is off or out falls short. The high limit is above the number of nodes, which no degree
 // exceeds.
-pub fn fill(
-    head: Head,
-    presence: &[u16],
-    minimums: &[u16],
-    alpha: u16,
-    beta: u16,
-    limits: &mut [u16],
-)
-    requires { (head.operators ≤ 200) × (head.rides ≤ 60) × (mark_places head ≤ length presence.now) × (head.rides ≤ length minimums.now) ×
-        (mark_places head ≤ length limits.old) }
+pub fn fill(head: Head, asked: Asked<'_>, limits: &mut [u16])
+    requires { (head.operators ≤ 200) × (head.rides ≤ 60) × LongEnough head asked × (mark_places head ≤ length limits.old) }
     ensures { (x : ℕ) → x < mark_places head →
-        limit_of limits.new x ≡ peel_limits head presence.now minimums.now alpha beta x }
+        limit_of limits.new x ≡ peel_limits head asked.entry.presence.now asked.entry.minimums.now asked.entry.alpha asked.entry.beta x }
 {
     let n = head.operators as usize;
     let m = head.rides as usize;
     let high = head.operators + head.rides + 1;
-    fill_operators(&presence[..n], alpha, high, &mut limits[..n]);
+    fill_operators(&asked.presence[..n], asked.alpha, high, &mut limits[..n]);
     fill_rides(
-        &presence[n..n + m],
-        &minimums[..m],
-        beta,
+        &asked.presence[n..n + m],
+        &asked.minimums[..m],
+        asked.beta,
         high,
         &mut limits[n..n + m],
     );

@@ -7,9 +7,10 @@ ghost use Rattle.model.specs.Graph.{cover_under, own_limits};
 ghost use Rattle.model.specs.Layout.{mark_places, over};
 ghost use Rattle.model.specs.Calls.{counts, shown, present_cover};
 ghost use Rattle.model.specs.Outcome.{queried};
-ghost use Rattle.limits.specs.Limits.{limit_of};
+ghost use Rattle.limits.specs.Limits.{limit_of, LongEnough};
 ghost use Rattle.graph_degrees.specs.Degrees.{Bytes, first_pairs};
 
+use limits::Asked;
 use model::{Counts, Head};
 use pairs::PairTable;
 
@@ -45,25 +46,17 @@ fn count(head: Head, marks: &[u16]) -> Counts
 }
 
 // Marks the cover (alpha, beta) with minimums of the pairs that count and those present, and counts it; the marks that come in aren't read.
-pub fn cover_present(
-    table: PairTable<'_>,
-    presence: &[u16],
-    minimums: &[u16],
-    alpha: u16,
-    beta: u16,
-    marks: &mut [u16],
-) -> Counts
-    requires { (mark_places table.head ≤ length presence.now) × (table.head.rides ≤ length minimums.now) ×
-        (mark_places table.head ≤ length marks.old) }
+pub fn cover_present(table: PairTable<'_>, asked: Asked<'_>, marks: &mut [u16]) -> Counts
+    requires { LongEnough table.head asked × (mark_places table.head ≤ length marks.old) }
     ensures { queried result marks.new
         ≡ shown table.entry.head
-        (present_cover table.entry.head table.entry.operators.now table.entry.rides.now presence.now
-        (own_limits table.entry.head.operators minimums.now alpha beta))
+        (present_cover table.entry.head table.entry.operators.now table.entry.rides.now asked.entry.presence.now
+        (own_limits table.entry.head.operators asked.entry.minimums.now asked.entry.alpha asked.entry.beta))
         marks.old }
 {
-    let here = graph_degrees::present(table.head, presence);
+    let here = graph_degrees::present(table.head, asked.presence);
     let mut limits = [0u16; 260];
-    limits::fill(table.head, presence, minimums, alpha, beta, &mut limits);
+    limits::fill(table.head, asked, &mut limits);
     cover(table, &here, &limits, marks);
     count(table.head, marks)
 }

@@ -1,7 +1,7 @@
-// The pair arrays: the check of their order and range, and the place of a pair.
+// The pair arrays: the check of their order and range, and the table of those that are accepted, which finds a pair's place.
 #![tactic(auto)]
 
-ghost use Rattle.std.specs.Prelude.{◌≡◌, false, not, ◌&&◌, ◌||◌, ◌<◌, ◌≤◌, ltb, length};
+ghost use Rattle.std.specs.Prelude.{◌≡◌, false, not, ◌&&◌, ◌||◌, ◌<◌, ◌≤◌, ltb, is_ok, IfOk, IfErr, length};
 ghost use Rattle.model.specs.Count.{bit, count};
 ghost use Rattle.model.specs.Layout.{pair_at, listed};
 ghost use Rattle.model.specs.Refusal.{before, out_of_range, misplaced as misplaced_at, refused_5};
@@ -56,21 +56,6 @@ pub fn ascending(head: Head, operators: &[u16], rides: &[u16]) -> bool
     count_misplaced(head, operators, rides) == 0
 }
 
-// Whether (operator, ride) stands at a place, one of the first as many as pairs.
-pub fn stands_at(
-    pairs: usize,
-    place: usize,
-    operator: u16,
-    ride: u16,
-    operators: &[u16],
-    rides: &[u16],
-) -> bool
-    requires { (pairs ≤ length operators.now) × (pairs ≤ length rides.now) }
-    ensures { result ≡ (ltb place pairs && pair_at operators.now rides.now operator ride place) }
-{
-    place < pairs && operators[place] == operator && rides[place] == ride
-}
-
 impl PairTable<'_> {
     // The first place whose pair is not before (operator, ride), by halving: pairs are in order as their numbers are.
     pub fn place_of(self, operator: u16, ride: u16) -> usize
@@ -92,19 +77,35 @@ impl PairTable<'_> {
         low
     }
 
+    // Whether (operator, ride) stands at a place, one of the first as many as pairs.
+    fn stands_at(self, place: usize, operator: u16, ride: u16) -> bool
+        ensures { result ≡ (ltb place self.entry.head.pairs && pair_at self.entry.operators.now self.entry.rides.now operator ride place) }
+    {
+        place < self.head.pairs as usize
+            && self.operators[place] == operator
+            && self.rides[place] == ride
+    }
+
+    // The place of (operator, ride) where it is listed; else, as an error, the place to insert it at.
+    pub fn find(self, operator: u16, ride: u16) -> Result<usize, usize>
+        requires { (operator < self.head.operators) × (ride < self.head.rides) }
+        ensures listed { is_ok result ≡ listed self.entry.head.pairs self.entry.operators.now self.entry.rides.now operator ride }
+        ensures ok { IfOk result (FirstPlace self.entry.head self.entry.operators.now self.entry.rides.now operator ride) }
+        ensures err { IfErr result (FirstPlace self.entry.head self.entry.operators.now self.entry.rides.now operator ride) }
+    {
+        let place = self.place_of(operator, ride);
+        if self.stands_at(place, operator, ride) {
+            Ok(place)
+        } else {
+            Err(place)
+        }
+    }
+
     // Whether (operator, ride) is listed.
     pub fn is_listed(self, operator: u16, ride: u16) -> bool
         requires { (operator < self.head.operators) × (ride < self.head.rides) }
         ensures { result ≡ listed self.entry.head.pairs self.entry.operators.now self.entry.rides.now operator ride }
     {
-        let place = self.place_of(operator, ride);
-        stands_at(
-            self.head.pairs as usize,
-            place,
-            operator,
-            ride,
-            self.operators,
-            self.rides,
-        )
+        self.find(operator, ride).is_ok()
     }
 }

@@ -1,23 +1,24 @@
 -- The pair arrays after a taken message hold the pairs with the message's pair added or removed, in ascending order.
-use mathlib.Core.Path.{◌≡◌, refl, sym, ap, ap₂, ◌∙◌, subst, subst₂}
+use mathlib.Core.Path.{◌≡◌, refl, sym, ap, ap₂, ◌∙◌, subst}
 use mathlib.Core.Bool.{Bool, true, false, ◌&&◌}
-use mathlib.Core.List.{List, map, ◌++◌}
+use mathlib.Core.List.{List, map}
 use Prim.Native.Nat.{ℕ, ◌+◌, ◌-◌, ◌*◌, ◌/◌, ◌%◌, ◌≤◌, ◌<◌}
 use native.Mathlib.Omega.{arith}
 use native.Mathlib.Decide.{dec_lt, ℕ_discrete}
-use lib.Dec.{T, ltb, eqb, eqb→eq, eqb_refl}
-use lib.ListN.{length, get_or, take, drop, replicate, length-map}
+use lib.Dec.{T, eqb, eqb→eq, eqb_refl}
+use lib.ListN.{length, get_or, drop, length-map}
 use Rattle.model.specs.declared.Head.{Head}
 use Rattle.model.specs.Graph.{Graph}
-use Rattle.model.specs.Layout.{pair_places, over, pair_at, listed}
+use Rattle.model.specs.Layout.{pair_places, listed}
 use Rattle.model.specs.Contents.{pair_numbers}
 use Rattle.model.proofs.Count.{test_true, test_false, and_left, and_right, and_both}
 use Rattle.model.proofs.Pairs.{Pairs, pairs_fit, pairs_count, pairs_operators, pairs_rides}
+use Rattle.arrays.specs.Filled.{filled}
 use Rattle.pairs.specs.Accepted.{AcceptedPairs}
 use Rattle.pairs.specs.Place.{FirstPlace}
-use Rattle.pairs_shift.specs.Shift.{Inserted, Removed, Shifted}
-use Rattle.pairs_change.specs.Change.{with_pair, graph_with, count_after, Arrays}
-use Rattle.pairs.proofs.Place.{number, held, room, listed_first, stands_listed, unlisted_behind}
+use Rattle.pairs_shift.specs.Shift.{Inserted, Removed}
+use Rattle.pairs_change.specs.Change.{with_pair, graph_with, Listing, Arrays}
+use Rattle.pairs.proofs.Place.{number, held, room, listed_first, unlisted_behind}
 use Rattle.pairs_shift.proofs.Words.{drop_more, padded_done}
 
 -- a place below, at or above another
@@ -182,75 +183,49 @@ module _ (h : Head) (operators rides : List ℕ) (ok : AcceptedPairs h operators
                 (j - 1, omega arith, o.above (j - 1) (omega arith) (omega arith) ∙ ap (λ (x : ℕ). get_or operators x 0) z ∙ i.2, r.above (j - 1) (omega arith) (omega arith) ∙ ap (λ (x : ℕ). get_or rides x 0) z ∙ i.3)));
           }
 
--- ---- all together
+-- ---- the words, and those past the places of the pairs
 
-module _ (h : Head) (operators rides : List ℕ) (ok : AcceptedPairs h operators rides) (u v : ℕ) (in_operators : u < h.operators) (in_rides : v < h.rides) (to : Bool) (p : ℕ) (first : FirstPlace h operators rides u v p) (stands : Bool) (tested : stands ≡ (ltb p h.pairs && pair_at operators rides u v p)) where
-  abbrev cleared : ℕ → ℕ → Bool
-  cleared = listed h.pairs operators rides
+module _ (h : Head) (operators rides : List ℕ) (g : Graph) (n : ℕ) (operators' rides' : List ℕ) where
+  listing : Pairs g n operators' rides' → n ≤ length operators' → n ≤ length rides' → g.rides ≡ h.rides → drop (pair_places h) operators' ≡ drop (pair_places h) operators → drop (pair_places h) rides' ≡ drop (pair_places h) rides → Listing h g operators rides n operators' rides'
+  listing ps b c e o r =
+      record {
+        pairs = pairs_count g n operators' rides' ps;
+        operator_words = pairs_operators g n operators' rides' ps b ∙ ap (λ (m : ℕ). map (λ k. k / m) (pair_numbers g)) e;
+        ride_words = pairs_rides g n operators' rides' ps c ∙ ap (λ (m : ℕ). map (λ k. k % m) (pair_numbers g)) e;
+        operator_rest = o;
+        ride_rest = r;
+      }
 
-  abbrev after : Graph
-  after = graph_with h operators rides u v to
+module _ (h : Head) (operators rides : List ℕ) (ok : AcceptedPairs h operators rides) (u v : ℕ) where
+  full : h.pairs ≤ pair_places h
+  full = pairs_fit h operators rides (listed h.pairs operators rides) (held h operators rides ok)
 
-  -- a pair that stands at its first place is listed
-  told : stands ≡ cleared u v
-  told = tested ∙ stands_listed h operators rides ok u v p first
+  pub listing_same : (to : Bool) → listed h.pairs operators rides u v ≡ to → Listing h (graph_with h operators rides u v to) operators rides h.pairs operators rides
+  listing_same to e =
+      listing h operators rides (graph_with h operators rides u v to) h.pairs operators rides (pairs_same h operators rides ok u v to e) ok.operators_long ok.rides_long refl refl refl
 
-  stands_place : stands ≡ true → p < h.pairs
-  stands_place e = (listed_first h operators rides ok u v p first (subst T (sym e ∙ told) tt)).0
+  module _ (in_operators : u < h.operators) (in_rides : v < h.rides) (p : ℕ) (first : FirstPlace h operators rides u v p) (operators' rides' : List ℕ) where
+    pub listing_more : (T (listed h.pairs operators rides u v) → ⊥) → Inserted p h.pairs u operators operators' → Inserted p h.pairs v rides rides' → h.pairs + 1 ≤ length operators' → h.pairs + 1 ≤ length rides' → Listing h (graph_with h operators rides u v true) operators rides (h.pairs + 1) operators' rides'
+    listing_more out o r b c =
+        let fits = room h operators rides ok u v in_operators in_rides out in
+        listing h operators rides (graph_with h operators rides u v true) (h.pairs + 1) operators' rides' (pairs_more h operators rides ok u v in_operators in_rides p first operators' rides' out o r) b c refl
+        (drop_more operators' operators (h.pairs + 1) (pair_places h) (omega arith) o.rest)
+        (drop_more rides' rides (h.pairs + 1) (pair_places h) (omega arith) r.rest)
 
-  module _ (n : ℕ) (counted : n ≡ count_after h.pairs stands to) where
-    -- the pair is added, or removed, or is already so
-    by_case {ℓ} : {C : Type ℓ} → (n ≡ h.pairs + 1 → to ≡ true → (T (cleared u v) → ⊥) → C) → (n + 1 ≡ h.pairs → to ≡ false → T (cleared u v) → C) → (n ≡ h.pairs → cleared u v ≡ to → C) → C
-    by_case {C = C} more less same = go to stands refl refl counted
-      where
-        go : (t s : Bool) → t ≡ to → s ≡ stands → n ≡ count_after h.pairs s t → C
-        go true true e f c = same (omega arith) (sym (f ∙ told) ∙ e)
-        go true false e f c = more (omega arith) (sym e) (λ t. subst T (sym (f ∙ told)) t)
-        go false true e f c = less (omega (arith, stands_place (sym f))) (sym e) (subst T (f ∙ told) tt)
-        go false false e f c = same (omega arith) (sym (f ∙ told) ∙ e)
+    pub listing_less : T (listed h.pairs operators rides u v) → Removed p h.pairs operators operators' → Removed p h.pairs rides rides' → h.pairs - 1 ≤ length operators' → h.pairs - 1 ≤ length rides' → Listing h (graph_with h operators rides u v false) operators rides (h.pairs - 1) operators' rides'
+    listing_less in_List o r b c =
+        listing h operators rides (graph_with h operators rides u v false) (h.pairs - 1) operators' rides' (pairs_less h operators rides ok u v in_operators in_rides p first operators' rides' in_List o r) b c refl
+        (drop_more operators' operators h.pairs (pair_places h) full o.rest)
+        (drop_more rides' rides h.pairs (pair_places h) full r.rest)
 
-    count_next : n ≤ h.pairs + 1
-    count_next = by_case (λ e t l. omega arith) (λ e t l. omega arith) (λ e l. omega arith)
+-- ---- with zeros behind them
 
-    count_fits : n ≤ pair_places h
-    count_fits =
-        let full = pairs_fit h operators rides (listed h.pairs operators rides) (held h operators rides ok) in
-        by_case (λ e t l. omega (arith, room h operators rides ok u v in_operators in_rides l)) (λ e t l. omega arith) (λ e l. omega arith)
-
-    count_place : n < h.pairs → p < h.pairs
-    count_place b =
-        by_case
-        (λ e t l. absurd (let z : ⊥ = omega arith in z))
-        (λ e t l. (listed_first h operators rides ok u v p first l).0)
-        (λ e l. absurd (let z : ⊥ = omega arith in z))
-
-    -- the new number of pairs fits, is one more at most, and where it is less the pair stands at its place
-    pub counts_fit : (n ≤ pair_places h) × (n ≤ h.pairs + 1) × (n < h.pairs → p < h.pairs)
-    counts_fit = (count_fits, count_next, count_place)
-
-    module _ (operators' rides' : List ℕ) (o : Shifted h.pairs n p u operators operators') (r : Shifted h.pairs n p v rides rides') where
-      pairs_after : Pairs after n operators' rides'
-      pairs_after =
-          by_case
-          (λ e t l. subst₂ (λ (b : Bool) (k : ℕ). Pairs (graph_with h operators rides u v b) k operators' rides') (sym t) (sym e) (pairs_more h operators rides ok u v in_operators in_rides p first operators' rides' l (o.more (omega arith)) (r.more (omega arith))))
-          (λ e t l. subst₂ (λ (b : Bool) (k : ℕ). Pairs (graph_with h operators rides u v b) k operators' rides') (sym t) (let q : h.pairs - 1 ≡ n = omega arith in q) (pairs_less h operators rides ok u v in_operators in_rides p first operators' rides' l (o.less (omega arith)) (r.less (omega arith))))
-          (λ e l. subst₂ (λ (x y : List ℕ). Pairs after n x y) (sym (o.same e)) (sym (r.same e)) (subst (λ (k : ℕ). Pairs after k operators rides) (sym e) (pairs_same h operators rides ok u v to l)))
-
-      -- past the places of the pairs nothing moves
-      rest_same : (w : ℕ) (l l' : List ℕ) → Shifted h.pairs n p w l l' → drop (pair_places h) l' ≡ drop (pair_places h) l
-      rest_same w l l' s =
-          let full = pairs_fit h operators rides (listed h.pairs operators rides) (held h operators rides ok) in
-          by_case
-          (λ e t k. drop_more l' l (h.pairs + 1) (pair_places h) (omega (arith, count_fits)) (s.more (omega arith)).rest)
-          (λ e t k. drop_more l' l h.pairs (pair_places h) full (s.less (omega arith)).rest)
-          (λ e k. ap (drop (pair_places h)) (s.same e))
-
-      pub changed_all : n ≤ length operators' → n ≤ length rides' → (operators'' rides'' : List ℕ) → operators'' ≡ over (take n operators' ++ replicate (pair_places h - n) 0) operators' → rides'' ≡ over (take n rides' ++ replicate (pair_places h - n) 0) rides' → Arrays h after operators rides n operators'' rides''
-      changed_all b c operators'' rides'' d e =
-          let count = pairs_count after n operators' rides' pairs_after in
-          let words : (ℕ → ℕ) → List ℕ = λ f. map f (pair_numbers after) in
-          record {
-            pairs = count;
-            operator_words = padded_done (words (λ k. k / h.rides)) operators operators' operators'' n (pair_places h) (pairs_operators after n operators' rides' pairs_after b) (count ∙ sym (length-map (pair_numbers after) (λ k. k / h.rides))) count_fits (rest_same u operators operators' o) d;
-            ride_words = padded_done (words (λ k. k % h.rides)) rides rides' rides'' n (pair_places h) (pairs_rides after n operators' rides' pairs_after c) (count ∙ sym (length-map (pair_numbers after) (λ k. k % h.rides))) count_fits (rest_same v rides rides' r) e;
-          }
+module _ (h : Head) (g : Graph) (operators rides : List ℕ) (n : ℕ) (operators' rides' : List ℕ) (s : Listing h g operators rides n operators' rides') (fits : n ≤ pair_places h) where
+  pub tails_after : (operators'' rides'' : List ℕ) → operators'' ≡ filled n (pair_places h) 0 operators' → rides'' ≡ filled n (pair_places h) 0 rides' → Arrays h g operators rides n operators'' rides''
+  tails_after operators'' rides'' d e =
+      let words : (ℕ → ℕ) → List ℕ = λ f. map f (pair_numbers g) in
+      record {
+        pairs = s.pairs;
+        operator_words = padded_done (words (λ k. k / h.rides)) operators operators' operators'' n (pair_places h) s.operator_words (s.pairs ∙ sym (length-map (pair_numbers g) (λ k. k / h.rides))) fits s.operator_rest d;
+        ride_words = padded_done (words (λ k. k % h.rides)) rides rides' rides'' n (pair_places h) s.ride_words (s.pairs ∙ sym (length-map (pair_numbers g) (λ k. k % h.rides))) fits s.ride_rest e;
+      }

@@ -1,7 +1,6 @@
 -- Inner contracts: a taken message adds its pair to the pair arrays, or removes it, where needed, and zeros stand behind the last pair.
-use Rattle.std.specs.Prelude.{◌≡◌, Bool, true, false, ◌&&◌, not, List, map, ℕ, ◌+◌, ◌-◌, ◌/◌, ◌%◌, eqb, length}
+use Rattle.std.specs.Prelude.{◌≡◌, Bool, true, false, ◌&&◌, List, map, ℕ, ◌/◌, ◌%◌, eqb, length, take, drop}
 use Rattle.model.specs.declared.Head.{Head}
-use Rattle.model.specs.Count.{bit}
 use Rattle.model.specs.Graph.{Graph}
 use Rattle.model.specs.Layout.{pair_places, over, listed, sized}
 use Rattle.model.specs.Contents.{pair_numbers, padded}
@@ -14,10 +13,13 @@ with_pair c u v to a d = elim (eqb a u && eqb d v) [ true ↦ to | false ↦ c a
 abbrev pub graph_with : Head → List ℕ → List ℕ → ℕ → ℕ → Bool → Graph
 graph_with h operators rides u v to = sized h (with_pair (listed h.pairs operators rides) u v to)
 
--- the number of pairs after a taken message, of a pair that is listed or not
-abbrev pub count_after : ℕ → Bool → Bool → ℕ
-count_after pairs listed true = pairs + bit (not listed)
-count_after pairs listed false = pairs - bit listed
+-- the first count words of the pair arrays are the clearances of g; past the places of the pairs the words are the old ones
+pub record Listing (h : Head) (g : Graph) (operators rides : List ℕ) (count : ℕ) (operators' rides' : List ℕ) : Type 0 where
+  pub pairs : count ≡ length (pair_numbers g)
+  pub operator_words : take count operators' ≡ map (λ k. k / h.rides) (pair_numbers g)
+  pub ride_words : take count rides' ≡ map (λ k. k % h.rides) (pair_numbers g)
+  pub operator_rest : drop (pair_places h) operators' ≡ drop (pair_places h) operators
+  pub ride_rest : drop (pair_places h) rides' ≡ drop (pair_places h) rides
 
 -- the pair arrays list the clearances of g, zeros stand behind them, and their count is this; past their end the old words
 pub record Arrays (h : Head) (g : Graph) (operators rides : List ℕ) (count : ℕ) (operators' rides' : List ℕ) : Type 0 where

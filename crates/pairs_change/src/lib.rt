@@ -1,27 +1,53 @@
 // The pair arrays after a taken message: its pair is added or removed where needed, and zeros stand behind the last pair.
 #![tactic(auto)]
 
-ghost use Rattle.std.specs.Prelude.{◌≡◌, true, ◌+◌, ◌<◌, ◌≤◌, length};
+ghost use Rattle.std.specs.Prelude.{◌<◌, ◌≤◌, length};
 ghost use Rattle.model.specs.Layout.{pair_places, graph};
 ghost use Rattle.pairs.specs.Accepted.{AcceptedPairs};
-ghost use Rattle.pairs_change.specs.Change.{graph_with, count_after, Arrays};
+ghost use Rattle.pairs_change.specs.Change.{graph_with, Listing, Arrays};
 
 use model::Head;
 use pairs::PairTable;
 
-// The number of pairs after a grant or a withdrawal.
-fn count_of(pairs: usize, is_listed: bool, grant: bool) -> usize
-    requires { (pairs < 65536) × (is_listed ≡ true → 1 ≤ pairs) }
-    ensures { result ≡ count_after pairs is_listed grant }
+// Adds the pair to the listed pairs (a grant) or removes it from them (a withdrawal) where needed; the new number of pairs.
+fn enter(
+    head: Head,
+    operator: u16,
+    ride: u16,
+    grant: bool,
+    operators: &mut [u16],
+    rides: &mut [u16],
+) -> usize
+    requires { AcceptedPairs head operators.old rides.old ×
+        (operator < head.operators) ×
+        (ride < head.rides) ×
+        (pair_places head ≤ length operators.old) ×
+        (pair_places head ≤ length rides.old) }
+    ensures { Listing head (graph_with head operators.old rides.old operator ride grant) operators.old rides.old result
+        operators.new rides.new }
 {
-    if grant {
-        pairs + usize::from(!is_listed)
-    } else {
-        pairs - usize::from(is_listed)
+    let pairs = head.pairs as usize;
+    let table = PairTable {
+        head,
+        operators,
+        rides,
+    };
+    match (grant, table.find(operator, ride)) {
+        (true, Err(place)) => {
+            pairs_shift::insert(operators, place, pairs, operator);
+            pairs_shift::insert(rides, place, pairs, ride);
+            pairs + 1
+        }
+        (false, Ok(place)) => {
+            pairs_shift::remove(operators, place, pairs);
+            pairs_shift::remove(rides, place, pairs);
+            pairs - 1
+        }
+        _ => pairs,
     }
 }
 
-// Adds the pair to the pair arrays (a grant) or removes it (a withdrawal) where needed, and zeroes their tails; the new number of pairs.
+// Enters a grant or a withdrawal of a pair in the pair arrays, and zeroes their tails; the new number of pairs.
 pub fn change(
     head: Head,
     operator: u16,
@@ -39,17 +65,7 @@ pub fn change(
         operators.new rides.new }
 {
     let places = head.operators as usize * head.rides as usize;
-    let pairs = head.pairs as usize;
-    let table = PairTable {
-        head,
-        operators,
-        rides,
-    };
-    let place = table.place_of(operator, ride);
-    let stands = pairs::stands_at(pairs, place, operator, ride, operators, rides);
-    let count = count_of(pairs, stands, grant);
-    pairs_shift::shift(operators, place, operator, pairs, count);
-    pairs_shift::shift(rides, place, ride, pairs, count);
+    let count = enter(head, operator, ride, grant, operators, rides);
     arrays::fill(operators, count, places, 0);
     arrays::fill(rides, count, places, 0);
     count as u16

@@ -13,9 +13,3 @@ pub record Removed (place n : ℕ) (old new : List ℕ) : Type 0 where
   pub below : (k : ℕ) → k < place → get_or new k 0 ≡ get_or old k 0
   pub above : (k : ℕ) → place ≤ k → k + 1 < n → get_or new k 0 ≡ get_or old (k + 1) 0
   pub rest : drop n new ≡ drop n old
-
--- one pair array where the number of pairs goes to count: the word is inserted, or removed, or all stays
-pub record Shifted (pairs count place word : ℕ) (old new : List ℕ) : Type 0 where
-  pub more : pairs < count → Inserted place pairs word old new
-  pub less : count < pairs → Removed place pairs old new
-  pub same : count ≡ pairs → new ≡ old

@@ -85,9 +85,9 @@ pub fn run(
         by_ride,
     };
     let mut state = first;
-    while state.steps < allowed {
+    for _ in 0..allowed {
         let Some(x) = state.next else {
-            return state;
+            break;
         };
         let x = x as usize;
         // In the state's own array, and not in one that the step hands on: the state is copied once a step so.

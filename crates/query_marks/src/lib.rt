@@ -2,13 +2,13 @@
 #![tactic(auto)]
 
 ghost use Rattle.std.specs.Prelude.{◌+◌, ◌≤◌, length, replicate};
-ghost use Rattle.query_marks.specs.Marks.{RowMarked};
+ghost use Rattle.query_marks.specs.Marks.{FitsRow, RowMarked};
 
 use model::Counts;
 
 // Marks those present in one row whose level is at least `least`, operators and rides alike: one loop marks them all.
 fn mark_both(row: &[u16], n: usize, presence: &[u16], least: u16, marks: &mut [u16]) -> Counts
-    requires { (n ≤ length row.now) × (length row.now ≤ length presence.now) × (length row.now ≤ length marks.old) × (length row.now ≤ 260) }
+    requires { FitsRow row.now n presence.now marks.old }
     ensures { RowMarked row.now n presence.now least least marks.old result marks.new }
 {
     let w = row.len();
@@ -30,7 +30,7 @@ fn mark_sides(
     ride_least: u16,
     marks: &mut [u16],
 ) -> Counts
-    requires { (n ≤ length row.now) × (length row.now ≤ length presence.now) × (length row.now ≤ length marks.old) × (length row.now ≤ 260) }
+    requires { FitsRow row.now n presence.now marks.old }
     ensures { RowMarked row.now n presence.now operator_least ride_least marks.old result marks.new }
 {
     let w = row.len();
@@ -57,7 +57,7 @@ pub fn mark_row(
     ride_least: u16,
     marks: &mut [u16],
 ) -> Counts
-    requires { (n ≤ length row.now) × (length row.now ≤ length presence.now) × (length row.now ≤ length marks.old) × (length row.now ≤ 260) }
+    requires { FitsRow row.now n presence.now marks.old }
     ensures { RowMarked row.now n presence.now operator_least ride_least marks.old result marks.new }
 {
     if operator_least == ride_least {

@@ -4,7 +4,7 @@
 ghost use Rattle.std.specs.Prelude.{◌≡◌};
 ghost use Rattle.refusal_kind.specs.Number.{number, number_of};
 
-use model::{Counts, Peeled};
+use model::{Answer, Counts, CrowdLimits, Peeled};
 
 // A number of documents 01 and 02, but 0.
 #[derive(Clone, Copy, Debug, PartialEq, Eq)]
@@ -37,11 +37,11 @@ impl Refusal {
     }
 
     // The number that a check answers: 0 where it refuses nothing.
-    pub fn number_of(checked: Result<(), Refusal>) -> u16
+    pub fn number_of<T: Copy>(checked: Result<T, Refusal>) -> u16
         ensures { result ≡ number_of checked }
     {
         match checked {
-            Ok(()) => 0,
+            Ok(_) => 0,
             Err(refusal) => refusal.number(),
         }
     }
@@ -69,6 +69,31 @@ impl From<Refusal> for Peeled {
             code: refusal.number(),
             settled: 0,
             steps: 0,
+        }
+    }
+}
+
+// A refused message leaves no word of the index that differs.
+impl From<Refusal> for Answer {
+    ghost from_gives = { λ refusal answer. answer ≡ record { code = number refusal; differ = 0 } };
+
+    fn from(refusal: Refusal) -> Answer {
+        Answer {
+            code: refusal.number(),
+            differ: 0,
+        }
+    }
+}
+
+// A refused look-up gives no limits.
+impl From<Refusal> for CrowdLimits {
+    ghost from_gives = { λ refusal limits. limits ≡ record { code = number refusal; alpha = 0; beta = 0 } };
+
+    fn from(refusal: Refusal) -> CrowdLimits {
+        CrowdLimits {
+            code: refusal.number(),
+            alpha: 0,
+            beta: 0,
         }
     }
 }

@@ -97,8 +97,7 @@ fn first(applies: bool, number: u16, after: u16) -> u16
     after
 }
 
-// 1 to 3. All are tested, without a branch between them (docs/DECISIONS.md).
-
+// The number that refuses a query, 1 to 3, or 0. All are tested, without a branch between them (docs/DECISIONS.md).
 pub fn query_number(head: Head, index: &[u16], presence: &[u16], marks: &[u16]) -> u16
     ensures { result ≡ query_refusal head index.now presence.now marks.now }
 {

@@ -18,7 +18,7 @@ fn unknown<W: Write>(
 ) -> io::Result<()> {
     let head = words.head();
     let first = words.word();
-    memory.load(&mut words.behind(6 * usize::from(first)), None);
+    memory.load_pairs(&mut words.behind(6 * usize::from(first)));
     if number == 0 {
         replay_tables::cover(out, head, first, words.word(), memory)
     } else {

@@ -1,7 +1,7 @@
 // The calls of a frame that take a crowd table: the look-up and the cover for a guest count. Each writes its answer's numbers.
 #![tactic(auto)]
 
-use frames::{CallKind, Words};
+use frames::Words;
 use model::{Band, Bands, Counts, Head};
 use replay_memory::Memory;
 use std::io;
@@ -9,15 +9,11 @@ use std::io::Write;
 
 // The next words of a frame as a band.
 fn band(words: &mut Words<'_>) -> Band {
-    let first = words.word();
-    let last = words.word();
-    let alpha = words.word();
-    let beta = words.word();
     Band {
-        first,
-        last,
-        alpha,
-        beta,
+        first: words.word(),
+        last: words.word(),
+        alpha: words.word(),
+        beta: words.word(),
     }
 }
 
@@ -39,7 +35,7 @@ pub fn limits<W: Write>(
 ) -> io::Result<()> {
     let guests = words.word();
     let found = crowd_bands::crowd_limits(table(words), guests);
-    memory.load(words, Some(CallKind::LookUp));
+    memory.clear();
     frames::print(out, found.code)?;
     frames::print(out, found.alpha)?;
     frames::print(out, found.beta)
@@ -76,6 +72,6 @@ pub fn crowd_cover<W: Write>(
     let head = words.head();
     let guests = words.word();
     let bands = table(words);
-    memory.load(words, Some(CallKind::CrowdCover));
+    memory.load_cover(words);
     cover(out, head, guests, bands, memory)
 }

@@ -1,7 +1,7 @@
 // The memory that the replays lend: set as a frame says, and its checksum.
 #![tactic(auto)]
 
-use frames::{CallKind, Words};
+use frames::Words;
 use lent_parts::Part;
 use model::Head;
 use part_board::{BoardMut, BoardRef};
@@ -30,32 +30,61 @@ pub struct Memory<'a> {
 }
 
 impl Memory<'_> {
-    // Sets the memory as the parts of a frame say. A query has no pairs, a peel and the covers have no index, and none of them has stamps or revisions,
-    // of pairs or of nodes; they alone have marks. A peel and the covers alone have minimums. A look-up in a crowd table has no parts. A frame of no known
-    // call has the pairs and the presence.
-    pub fn load(&mut self, words: &mut Words<'_>, kind: Option<CallKind>) {
-        let whole = matches!(
-            kind,
-            Some(CallKind::Build | CallKind::Message | CallKind::List)
-        );
-        let own = matches!(
-            kind,
-            Some(CallKind::Peel | CallKind::CrowdCover | CallKind::OwnCover)
-        );
-        let query = kind == Some(CallKind::Query);
-        let look_up = kind == Some(CallKind::LookUp);
-        let paired = !query && !look_up;
-        self.operators.load(words, paired);
-        self.rides.load(words, paired);
-        self.stamps.load(words, whole);
-        self.revisions.load(words, whole);
-        self.index.load(words, whole || query);
-        self.presence_stamps.load(words, whole);
-        self.presence_revisions.load(words, whole);
-        self.presence.load(words, !look_up);
-        self.minimums.load(words, own);
-        self.marks.load(words, own || query);
-        self.answers.load(words, kind == Some(CallKind::List));
+    // Lends nothing: a look-up in a crowd table has no parts.
+    pub fn clear(&mut self) {
+        self.operators.clear();
+        self.rides.clear();
+        self.stamps.clear();
+        self.revisions.clear();
+        self.index.clear();
+        self.presence_stamps.clear();
+        self.presence_revisions.clear();
+        self.presence.clear();
+        self.minimums.clear();
+        self.marks.clear();
+        self.answers.clear();
+    }
+
+    // Lends the parts of a board, as the next words of a frame say.
+    pub fn load_board(&mut self, words: &mut Words<'_>) {
+        self.clear();
+        self.operators.load(words);
+        self.rides.load(words);
+        self.stamps.load(words);
+        self.revisions.load(words);
+        self.index.load(words);
+        self.presence_stamps.load(words);
+        self.presence_revisions.load(words);
+        self.presence.load(words);
+    }
+
+    // Lends the parts of a board, and a message list's answers.
+    pub fn load_list(&mut self, words: &mut Words<'_>) {
+        self.load_board(words);
+        self.answers.load(words);
+    }
+
+    // Lends what a query has.
+    pub fn load_query(&mut self, words: &mut Words<'_>) {
+        self.clear();
+        self.index.load(words);
+        self.presence.load(words);
+        self.marks.load(words);
+    }
+
+    // Lends what a frame of no known call has: the pairs and the presence.
+    pub fn load_pairs(&mut self, words: &mut Words<'_>) {
+        self.clear();
+        self.operators.load(words);
+        self.rides.load(words);
+        self.presence.load(words);
+    }
+
+    // Lends what a peel and the covers have.
+    pub fn load_cover(&mut self, words: &mut Words<'_>) {
+        self.load_pairs(words);
+        self.minimums.load(words);
+        self.marks.load(words);
     }
 
     // The board that is lent.
@@ -90,11 +119,7 @@ impl Memory<'_> {
 
     // The checksum of a head, if there is one, and of all that is lent.
     pub fn checksum(&self, head: Option<Head>) -> u64 {
-        let start = match head {
-            Some(head) => head_checksum(head),
-            None => 0,
-        };
-        let mut sum = self.operators.checksum(start);
+        let mut sum = self.operators.checksum(head.map_or(0, head_checksum));
         sum = self.rides.checksum(sum);
         sum = self.stamps.checksum(sum);
         sum = self.revisions.checksum(sum);

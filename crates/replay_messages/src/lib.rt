@@ -1,8 +1,8 @@
-// The message and message list calls of a frame, sent through `call_message::deliver`: a message is delivered as a list of one. Each writes its answer's
+// The message and message list calls of a frame, sent through `call_message::deliver`: a list is delivered message by message. Each writes its answer's
 // numbers, and answers the head after it.
 #![tactic(auto)]
 
-use frames::{CallKind, Words};
+use frames::Words;
 use model::{Head, Message};
 use refusal_kind::Refusal;
 use replay_memory::Memory;
@@ -25,7 +25,7 @@ pub fn message<W: Write>(
 ) -> io::Result<Head> {
     let mut head = words.head();
     let message = words.message();
-    memory.load(words, Some(CallKind::Message));
+    memory.load_board(words);
     let (code, differ) = match deliver(&mut head, message, memory) {
         Ok(differ) => (0, differ),
         Err(refusal) => (refusal.number(), 0),
@@ -38,10 +38,7 @@ pub fn message<W: Write>(
 // Delivers the next so many messages of a frame, one after another, an answer for each.
 fn deliver_all(head: &mut Head, count: usize, words: &mut Words<'_>, memory: &mut Memory<'_>) {
     for i in 0..count {
-        let code = match deliver(head, words.message(), memory) {
-            Ok(_) => 0,
-            Err(refusal) => refusal.number(),
-        };
+        let code = Refusal::number_of(deliver(head, words.message(), memory));
         if let Some(answer) = memory.answers.lent().get_mut(i) {
             *answer = code;
         }
@@ -62,13 +59,11 @@ pub fn list<W: Write>(
     let mut head = words.head();
     let count = usize::from(words.word());
     let mut messages = *words;
-    memory.load(&mut words.behind(6 * count), Some(CallKind::List));
-    match check_list(head, count, memory) {
-        Ok(()) => {
-            frames::print(out, 0)?;
-            deliver_all(&mut head, count, &mut messages, memory);
-        }
-        Err(refusal) => frames::print(out, refusal.number())?,
+    memory.load_list(&mut words.behind(6 * count));
+    let checked = check_list(head, count, memory);
+    frames::print(out, Refusal::number_of(checked))?;
+    if checked.is_ok() {
+        deliver_all(&mut head, count, &mut messages, memory);
     }
     Ok(head)
 }

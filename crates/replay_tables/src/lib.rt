@@ -2,8 +2,9 @@
 // exported calls. Each writes its answer's numbers.
 #![tactic(auto)]
 
-use frames::{CallKind, Words};
+use frames::Words;
 use model::{Counts, Head, Peeled};
+use refusal_kind::Refusal;
 use replay_memory::Memory;
 use std::io;
 use std::io::Write;
@@ -28,12 +29,9 @@ pub fn build<W: Write>(
 ) -> io::Result<()> {
     let head = words.head();
     let start = words.long();
-    memory.load(words, Some(CallKind::Build));
-    let code = match call_build::build(&mut memory.board(head), start) {
-        Ok(()) => 0,
-        Err(refusal) => refusal.number(),
-    };
-    frames::print(out, code)
+    memory.load_board(words);
+    let built = call_build::build(&mut memory.board(head), start);
+    frames::print(out, Refusal::number_of(built))
 }
 
 // A query.
@@ -45,7 +43,7 @@ pub fn query<W: Write>(
     let head = words.head();
     let alpha = words.word();
     let beta = words.word();
-    memory.load(words, Some(CallKind::Query));
+    memory.load_query(words);
     let counts = call_query::query(
         head,
         memory.index.read(),
@@ -67,7 +65,7 @@ pub fn peel<W: Write>(
     let alpha = words.word();
     let beta = words.word();
     let steps = words.word();
-    memory.load(words, Some(CallKind::Peel));
+    memory.load_cover(words);
     let peeled = call_peel::peel(
         head,
         memory.operators.read(),
@@ -114,6 +112,6 @@ pub fn own_cover<W: Write>(
     let head = words.head();
     let alpha = words.word();
     let beta = words.word();
-    memory.load(words, Some(CallKind::OwnCover));
+    memory.load_cover(words);
     cover(out, head, alpha, beta, memory)
 }

@@ -1,18 +1,11 @@
--- `arrays::count_marks` meets its contract. The loop's invariant: the count is how many of the marks so far are 1.
-use mathlib.Core.Path.{sym}
-use native.Mathlib.Omega.{arith}
-use lib.ListN.{get_or}
-use Rattle.model.specs.Graph.{marked}
-use Rattle.model.proofs.Count.{bit_of, count_le, count_more, count_none}
+-- `arrays::count_marks` meets its contract: marks of 0 and 1 sum to the count of those that are 1.
+use Rattle.std.proofs.Common.{rules}
+use Rattle.std.proofs.iter.runs.Sources.{sums}
+use Rattle.arrays.proofs.Marks.{sum_marks, sum_fits}
 use Rattle.arrays.proofs.count_marks.Goals as goal
 
-pub loop-mark-init : goal.loop-mark-init
-loop-mark-init c = sym (count_none (marked c.args.marks.now))
+pub sum-requires-clause-fits : goal.sum-requires-clause-fits
+sum-requires-clause-fits c = let fits = sum_fits c.args.marks.now c.requires.by_index c.requires.marks_len_bound in search (rules, sums, fits)
 
-pub overflow_add-count : goal.overflow_add-count
-overflow_add-count c = let l = c.loop-mark in
-    omega (arith, l.invariant, count_le (marked c.args.marks.now) l.mark-index, c.requires.marks_len_bound, c.requires.by_index l.mark-index (omega arith))
-
-pub loop-mark-preserved : goal.loop-mark-preserved
-loop-mark-preserved c = let l = c.loop-mark in
-    omega (arith, l.invariant, count_more (marked c.args.marks.now) l.mark-index, bit_of (get_or c.args.marks.now l.mark-index 0) (c.requires.by_index l.mark-index (omega arith)))
+pub returns : goal.returns
+returns c = let counted = sum_marks c.args.marks.now c.requires.by_index in search (rules, sums, counted)

@@ -1,17 +1,10 @@
--- `arrays::fill` meets its contract. The loop's invariant: the places from the first one up to x have the value, the others are as they came.
+-- `arrays::fill` meets its contract. The loop's invariant: the items passed have the value, the others are as they came.
 use mathlib.Core.Path.{ap, ◌∙◌}
 use native.Mathlib.Omega.{arith}
 use lib.ListN.{set}
-use Rattle.arrays.proofs.Filled.{fill_none, fill_more, fill_done}
+use Rattle.arrays.proofs.Filled.{fill_more}
 use Rattle.arrays.proofs.fill.Goals as goal
 
-pub loop-x-init : goal.loop-x-init
-loop-x-init g c = let a = c.args in fill_none a.items.now a.from a.value
-
-pub loop-x-preserved : goal.loop-x-preserved
-loop-x-preserved g c = let a = c.args in let l = c.loop-x in
-    ap (λ x. set x l.x a.value) l.invariant ∙ fill_more a.items.now a.from a.value l.x (omega arith) (omega arith)
-
-pub returns : goal.returns
-returns g c = let a = c.args in let l = c.loop-x in
-    l.invariant ∙ fill_done a.items.now a.from a.value a.to (omega arith) (omega arith) l.x (omega arith)
+pub loop-item-preserved : goal.loop-item-preserved
+loop-item-preserved g c = let a = c.args in let l = c.loop-item in
+    ap (λ x. set x l.item-index a.value) l.invariant ∙ fill_more _ 0 a.value l.item-index (omega arith) (omega arith)

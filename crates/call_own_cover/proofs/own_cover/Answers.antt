@@ -15,7 +15,8 @@ returns-in_err-table c = let a = c.args in
 
 pub cover_present-requires : goal.cover_present-requires
 cover_present-requires c = let a = c.args in
-    long a.head a.operators.now a.rides.now a.presence.now a.minimums.now a.marks.now _ c.in_ok-table.ensures.refused refl _ c.in_ok-table.ensures.table.0
+    let l = long a.head a.operators.now a.rides.now a.presence.now a.minimums.now a.marks.now _ c.in_ok-table.ensures.refused refl _ c.in_ok-table.ensures.table.0 in
+    (record { presence = l.0; minimums = l.1 }, l.2)
 
 pub returns : goal.returns
 returns c = let a = c.args in

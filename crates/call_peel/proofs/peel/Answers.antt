@@ -1,10 +1,8 @@
--- `call_peel::peel` meets its contract: it refuses, or peels over new tables.
+-- `call_peel::peel` meets its contract: it refuses, or peels.
 use mathlib.Core.Path.{◌≡◌, sym, ap, ◌∙◌}
-use native.Mathlib.Omega.{arith}
 use Rattle.std.proofs.Common.{rules}
 use Rattle.model.specs.declared.Peeled.{Peeled}
 use Rattle.model.specs.Outcome.{peel_left}
-use Rattle.graph_tables.proofs.Held.{zero_tables}
 use Rattle.refusal_kind.specs.Number.{number}
 use Rattle.refusal_kind.specs.Told.{peeled_of}
 use Rattle.refusal_kind.proofs.Refused.{refused}
@@ -21,7 +19,7 @@ returns-in_err-table c = let a = c.args in
 pub peel_over-requires : goal.peel_over-requires
 peel_over-requires c = let a = c.args in
     let l = peel_long a.head a.operators.now a.rides.now a.presence.now a.minimums.now a.marks.now (sym c.in_ok-table.ensures.refused) _ c.in_ok-table.ensures.table.0 in
-    (l.0, l.1, zero_tables, omega (arith, l.2), l.3)
+    (record { presence = l.0; minimums = l.1 }, l.2)
 
 pub returns : goal.returns
 returns c = let a = c.args in

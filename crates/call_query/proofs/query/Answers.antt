@@ -14,32 +14,37 @@ returns-then-number-ne0 c = let a = c.args in
 
 pub mark_zeros-requires : goal.mark_zeros-requires
 mark_zeros-requires c = let a = c.args in
-    omega (arith, query_long a.head a.index.now a.presence.now a.marks.now ((let q : (let a = c.args in query_refusal a.head a.index.now a.presence.now a.marks.now ≡ 0) = let q = c.query_number-number in sym q.ensures ∙ (let z : q.result ≡ 0 = omega arith in z) in q)))
+    omega (arith, query_long a.head a.index.now a.presence.now a.marks.now (sym c.query_number-number.ensures ∙ omega arith))
 
 pub returns-then-head-row : goal.returns-then-head-row
 returns-then-head-row c = let a = c.args in
-    query_done a.head a.index.now a.presence.now a.marks.now a.alpha a.beta ((let q : (let a = c.args in query_refusal a.head a.index.now a.presence.now a.marks.now ≡ 0) = let q = c.query_number-number in sym q.ensures ∙ (let z : q.result ≡ 0 = omega arith in z) in q)) _ (length-replicate {A = ℕ} (mark_places a.head) 0) (zeros_levels a.head a.index.now a.presence.now a.marks.now a.alpha ((let q : (let a = c.args in query_refusal a.head a.index.now a.presence.now a.marks.now ≡ 0) = let q = c.query_number-number in sym q.ensures ∙ (let z : q.result ≡ 0 = omega arith in z) in q)) (omega (arith, c.row-row.ensures))) _ _ c.least-operator_least.ensures c.least-ride_least.ensures _ _ c.mark_zeros.ensures (omega arith)
+    let none : query_refusal a.head a.index.now a.presence.now a.marks.now ≡ 0 = sym c.query_number-number.ensures ∙ omega arith in
+    query_done a.head a.index.now a.presence.now a.marks.now a.alpha a.beta none _ (length-replicate {A = ℕ} (mark_places a.head) 0) (zeros_levels a.head a.index.now a.presence.now a.marks.now a.alpha none (omega (arith, c.row-row.ensures))) _ _ c.least-operator_least.ensures c.least-ride_least.ensures _ _ c.mark_zeros.ensures (omega arith)
 
 pub overflow_mul-at : goal.overflow_mul-at
 overflow_mul-at c = let a = c.args in
-    omega (arith, row_start a.head a.index.now a.presence.now a.marks.now a.alpha ((let q : (let a = c.args in query_refusal a.head a.index.now a.presence.now a.marks.now ≡ 0) = let q = c.query_number-number in sym q.ensures ∙ (let z : q.result ≡ 0 = omega arith in z) in q)) _ c.row-row.ensures (omega arith))
+    let none : query_refusal a.head a.index.now a.presence.now a.marks.now ≡ 0 = sym c.query_number-number.ensures ∙ omega arith in
+    omega (arith, row_start a.head a.index.now a.presence.now a.marks.now a.alpha none _ c.row-row.ensures (omega arith))
 
 pub overflow_add-at : goal.overflow_add-at
 overflow_add-at c = let a = c.args in
-    omega (arith, row_start a.head a.index.now a.presence.now a.marks.now a.alpha ((let q : (let a = c.args in query_refusal a.head a.index.now a.presence.now a.marks.now ≡ 0) = let q = c.query_number-number in sym q.ensures ∙ (let z : q.result ≡ 0 = omega arith in z) in q)) _ c.row-row.ensures (omega arith))
+    let none : query_refusal a.head a.index.now a.presence.now a.marks.now ≡ 0 = sym c.query_number-number.ensures ∙ omega arith in
+    omega (arith, row_start a.head a.index.now a.presence.now a.marks.now a.alpha none _ c.row-row.ensures (omega arith))
 
 pub offset_bounds-index-at : goal.offset_bounds-index-at
 offset_bounds-index-at c = let a = c.args in
-    omega (arith, row_start a.head a.index.now a.presence.now a.marks.now a.alpha ((let q : (let a = c.args in query_refusal a.head a.index.now a.presence.now a.marks.now ≡ 0) = let q = c.query_number-number in sym q.ensures ∙ (let z : q.result ≡ 0 = omega arith in z) in q)) _ c.row-row.ensures (omega arith))
+    let none : query_refusal a.head a.index.now a.presence.now a.marks.now ≡ 0 = sym c.query_number-number.ensures ∙ omega arith in
+    omega (arith, row_start a.head a.index.now a.presence.now a.marks.now a.alpha none _ c.row-row.ensures (omega arith))
 
 pub slice_bounds-mark_row-end : goal.slice_bounds-mark_row-end
 slice_bounds-mark_row-end c = let a = c.args in
-    row_end a.head a.index.now a.presence.now a.marks.now a.alpha ((let q : (let a = c.args in query_refusal a.head a.index.now a.presence.now a.marks.now ≡ 0) = let q = c.query_number-number in sym q.ensures ∙ (let z : q.result ≡ 0 = omega arith in z) in q)) _ c.row-row.ensures (omega arith)
+    row_end a.head a.index.now a.presence.now a.marks.now a.alpha (sym c.query_number-number.ensures ∙ omega arith) _ c.row-row.ensures (omega arith)
 
 pub mark_row-requires : goal.mark_row-requires
 mark_row-requires c = let a = c.args in
-    omega (arith, row_wide a.head a.index.now a.presence.now a.marks.now a.alpha ((let q : (let a = c.args in query_refusal a.head a.index.now a.presence.now a.marks.now ≡ 0) = let q = c.query_number-number in sym q.ensures ∙ (let z : q.result ≡ 0 = omega arith in z) in q)) _ c.row-row.ensures (omega arith), query_long a.head a.index.now a.presence.now a.marks.now ((let q : (let a = c.args in query_refusal a.head a.index.now a.presence.now a.marks.now ≡ 0) = let q = c.query_number-number in sym q.ensures ∙ (let z : q.result ≡ 0 = omega arith in z) in q)))
+    omega (arith, row_wide a.head a.index.now a.presence.now a.marks.now a.alpha (sym c.query_number-number.ensures ∙ omega arith) _ c.row-row.ensures (omega arith), query_long a.head a.index.now a.presence.now a.marks.now (sym c.query_number-number.ensures ∙ omega arith))
 
 pub returns : goal.returns
 returns c = let a = c.args in
-    query_done a.head a.index.now a.presence.now a.marks.now a.alpha a.beta ((let q : (let a = c.args in query_refusal a.head a.index.now a.presence.now a.marks.now ≡ 0) = let q = c.query_number-number in sym q.ensures ∙ (let z : q.result ≡ 0 = omega arith in z) in q)) _ (row_wide a.head a.index.now a.presence.now a.marks.now a.alpha ((let q : (let a = c.args in query_refusal a.head a.index.now a.presence.now a.marks.now ≡ 0) = let q = c.query_number-number in sym q.ensures ∙ (let z : q.result ≡ 0 = omega arith in z) in q)) _ c.row-row.ensures (omega arith)) (row_levels a.head a.index.now a.presence.now a.marks.now a.alpha ((let q : (let a = c.args in query_refusal a.head a.index.now a.presence.now a.marks.now ≡ 0) = let q = c.query_number-number in sym q.ensures ∙ (let z : q.result ≡ 0 = omega arith in z) in q)) _ c.row-row.ensures (omega arith)) _ _ c.least-operator_least.ensures c.least-ride_least.ensures _ _ c.mark_row.ensures (omega arith)
+    let none : query_refusal a.head a.index.now a.presence.now a.marks.now ≡ 0 = sym c.query_number-number.ensures ∙ omega arith in
+    query_done a.head a.index.now a.presence.now a.marks.now a.alpha a.beta none _ (row_wide a.head a.index.now a.presence.now a.marks.now a.alpha none _ c.row-row.ensures (omega arith)) (row_levels a.head a.index.now a.presence.now a.marks.now a.alpha none _ c.row-row.ensures (omega arith)) _ _ c.least-operator_least.ensures c.least-ride_least.ensures _ _ c.mark_row.ensures (omega arith)

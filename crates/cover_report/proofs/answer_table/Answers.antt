@@ -56,10 +56,7 @@ pub put_lines-requires : goal.put_lines-requires
 put_lines-requires c =
     let a = c.args in
     let nodes = a.head.operators + a.head.rides in record {
-      row = (
-        length-take nodes (replicate 260 0) ∙ (let e : min nodes 260 ≡ a.head.operators + a.head.rides = omega arith in e),
-        omega arith,
-      );
+      row = length-take nodes (replicate 260 0) ∙ (let e : min nodes 260 ≡ a.head.operators + a.head.rides = omega arith in e);
       zeros = take_zeros nodes (replicate 260 0) (getD_zeros 260);
     }
 

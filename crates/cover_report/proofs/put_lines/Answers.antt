@@ -10,7 +10,7 @@ use Rattle.cover_report.proofs.put_lines.Goals as goal
 
 pub fill_levels-requires : goal.fill_levels-requires
 fill_levels-requires c =
-    record { row = (omega (arith, c.row.ensures), c.requires.row.0); zeros = c.requires.zeros }
+    record { row = (omega (arith, c.row.ensures), c.requires.row); zeros = c.requires.zeros }
 
 pub returns : goal.returns
 returns c =

@@ -6,6 +6,6 @@ use Rattle.limits.proofs.fill.Goals as goal
 
 pub returns : goal.returns
 returns c = let a = c.args in
-    both_sides a.head.operators a.head.rides a.alpha a.beta a.presence.now a.minimums.now a.limits.now _ _ _ (omega arith) (omega arith) (search rules) (search rules)
+    both_sides a.head.operators a.head.rides a.asked.alpha a.asked.beta a.asked.presence.now a.asked.minimums.now a.limits.now _ _ _ (omega arith) (omega (arith, c.requires.2.presence)) (search rules) (search rules)
     (λ u k. c.fill_operators.ensures u (search rules))
     (λ v k. c.fill_rides.ensures v (search rules))

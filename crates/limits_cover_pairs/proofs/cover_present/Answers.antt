@@ -6,9 +6,9 @@ use Rattle.limits_cover_pairs.proofs.cover_present.Goals as goal
 
 pub count-requires : goal.count-requires
 count-requires c = let a = c.args in
-    let left = left_counted a.table.head a.table.operators.now a.table.rides.now a.presence.now (own_limits a.table.head.operators a.minimums.now a.alpha a.beta) _ c.fill.ensures a.marks.now _ (c.cover.ensures _ c.present-here.ensures) in
+    let left = left_counted a.table.head a.table.operators.now a.table.rides.now a.asked.presence.now (own_limits a.table.head.operators a.asked.minimums.now a.asked.alpha a.asked.beta) _ c.fill.ensures a.marks.now _ (c.cover.ensures _ c.present-here.ensures) in
     (search rules, search rules, left.0, left.1)
 
 pub returns : goal.returns
 returns c = let a = c.args in
-    left_shown a.table.head a.table.operators.now a.table.rides.now a.presence.now (own_limits a.table.head.operators a.minimums.now a.alpha a.beta) _ c.fill.ensures a.marks.now _ (c.cover.ensures _ c.present-here.ensures) _ c.count.ensures
+    left_shown a.table.head a.table.operators.now a.table.rides.now a.asked.presence.now (own_limits a.table.head.operators a.asked.minimums.now a.asked.alpha a.asked.beta) _ c.fill.ensures a.marks.now _ (c.cover.ensures _ c.present-here.ensures) _ c.count.ensures

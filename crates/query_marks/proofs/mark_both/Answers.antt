@@ -8,16 +8,16 @@ pub count_marks-rides-requires : goal.count_marks-rides-requires
 count_marks-rides-requires c = let a = c.args in
     let v = c.mark_levels-all in
     let m = row_part a.row.now a.presence.now a.least v.result v.new.marks v.ensures in
-    record { marks_len_bound = omega (arith, part_long _ _ a.marks.now a.n _ c.requires.0 c.requires.2 _ _ m (omega arith), c.requires.3); by_index = part_bits _ _ a.marks.now a.n _ c.requires.0 c.requires.2 _ _ m (omega arith) }
+    record { marks_len_bound = omega (arith, part_long _ _ a.marks.now a.n _ c.requires.both_sides c.requires.with_marks _ _ m (omega arith), c.requires.few); by_index = part_bits _ _ a.marks.now a.n _ c.requires.both_sides c.requires.with_marks _ _ m (omega arith) }
 
 pub overflow_sub-result : goal.overflow_sub-result
 overflow_sub-result c = let a = c.args in
     let v = c.mark_levels-all in
     let m = row_part a.row.now a.presence.now a.least v.result v.new.marks v.ensures in
-    rides_le _ _ a.marks.now a.n _ c.requires.0 c.requires.2 _ _ m (omega arith) c.count_marks-rides.result c.count_marks-rides.ensures
+    rides_le _ _ a.marks.now a.n _ c.requires.both_sides c.requires.with_marks _ _ m (omega arith) c.count_marks-rides.result c.count_marks-rides.ensures
 
 pub returns : goal.returns
 returns c = let a = c.args in
     let v = c.mark_levels-all in
     let m = row_part a.row.now a.presence.now a.least v.result v.new.marks v.ensures in
-    both_marked _ _ a.marks.now a.n _ c.requires.0 c.requires.2 _ _ m (omega arith) c.count_marks-rides.result c.count_marks-rides.ensures
+    both_marked _ _ a.marks.now a.n _ c.requires.both_sides c.requires.with_marks _ _ m (omega arith) c.count_marks-rides.result c.count_marks-rides.ensures
