@@ -58,8 +58,8 @@
  *
  * For firmware (docs/INTERFACE.md says more):
  * - x86-64, System V calling convention, SSE2 and no more; no use of the red zone below the stack pointer.
- * - Deepest stack in bytes, measured at 200 x 60 (docs/BENCHMARK.md): build 26,064, query 192, peel 26,432, own cover
- *   26,944, look-up 128, crowd cover 27,024, message 26,144, message list 26,224, preview 26,448.
+ * - Deepest stack in bytes, measured at 200 x 60 (docs/BENCHMARK.md): build 26,864, query 208, peel 26,368, own cover
+ *   26,768, look-up 128, crowd cover 26,848, message and message list 27,264, preview 27,648.
  * - No writable data; of the program it needs memcpy, memmove and memset at most.
  * - A reset in the middle of a call leaves a mixture of old and new words in what the call writes: build again from a
  *   pair table, and send the messages again. A preview writes the spare memory alone.

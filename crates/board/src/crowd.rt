@@ -4,6 +4,7 @@ ghost use Rattle.model.specs.Crowd.{board_crowd_limits, board_crowd_cover};
 ghost use Rattle.model.specs.Outcome.{queried};
 
 use model::{Bands, Counts, CrowdLimits, Head};
+use refusal_peel::CoverRef;
 
 // The limits of the band that a guest count falls in.
 #[unsafe(no_mangle)]
@@ -31,7 +32,16 @@ pub extern "C" fn board_crowd_cover(
         marks.old }
 {
     call_crowd_cover::crowd_cover(
-        head, operators, rides, presence, bands, guests, minimums, marks,
+        CoverRef {
+            head,
+            operators,
+            rides,
+            presence,
+            minimums,
+        },
+        bands,
+        guests,
+        marks,
     )
     .unwrap_or_else(Counts::from)
 }

@@ -15,6 +15,7 @@ pub mod preview; // preview.rt: preview
 use model::{Answer, Counts, Head, Peeled};
 use part_board::BoardMut;
 use refusal_kind::Refusal;
+use refusal_peel::CoverRef;
 
 // Zeroes the tails of the pair arrays and the revisions, stamps the listed pairs, sets everybody on and in and fills the index.
 #[unsafe(no_mangle)]
@@ -90,7 +91,17 @@ pub extern "C" fn board_peel(
         steps }
 {
     call_peel::peel(
-        head, operators, rides, presence, minimums, marks, alpha, beta, steps,
+        CoverRef {
+            head,
+            operators,
+            rides,
+            presence,
+            minimums,
+        },
+        marks,
+        alpha,
+        beta,
+        steps,
     )
     .unwrap_or_else(Peeled::from)
 }
@@ -112,7 +123,16 @@ pub extern "C" fn board_own_cover(
         marks.old }
 {
     call_own_cover::own_cover(
-        head, operators, rides, presence, minimums, alpha, beta, marks,
+        CoverRef {
+            head,
+            operators,
+            rides,
+            presence,
+            minimums,
+        },
+        alpha,
+        beta,
+        marks,
     )
     .unwrap_or_else(Counts::from)
 }

@@ -8,30 +8,25 @@ ghost use Rattle.refusal_kind.specs.Told.{counts_of};
 
 use limits::Asked;
 use limits_cover_pairs::cover_present;
-use model::{Bands, Counts, Head};
+use model::{Bands, Counts};
 use refusal_kind::Refusal;
-use refusal_peel::check_lent;
+use refusal_peel::{CoverRef, check_lent};
 
 // Marks the cover for a guest count with minimums, and answers the counts of operators and rides marked.
 pub fn crowd_cover(
-    head: Head,
-    operators: &[u16],
-    rides: &[u16],
-    presence: &[u16],
+    lent: CoverRef<'_>,
     bands: Bands,
     guests: u16,
-    minimums: &[u16],
     marks: &mut [u16],
 ) -> Result<Counts, Refusal>
     ensures { queried (counts_of result) marks.new
-        ≡ board_crowd_cover head operators.now rides.now presence.now bands guests minimums.now
-        marks.old }
+        ≡ board_crowd_cover lent.entry.head lent.entry.operators.now lent.entry.rides.now lent.entry.presence.now bands guests lent.entry.minimums.now marks.old }
 {
-    let table = check_lent(head, operators, rides, presence, minimums, marks)?;
+    let table = check_lent(lent, marks)?;
     let limits = crowd_bands::find(&bands, guests)?;
     let asked = Asked {
-        presence,
-        minimums,
+        presence: lent.presence,
+        minimums: lent.minimums,
         alpha: limits.alpha,
         beta: limits.beta,
     };

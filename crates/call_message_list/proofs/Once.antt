@@ -8,7 +8,7 @@ use lib.Dec.{T, eqb, eqb→eq}
 use borrow.Author.Tests.{eq-eqb, ne_eqb}
 use lib.ListN.{length, set}
 use Rattle.model.specs.declared.Message.{Message}
-use Rattle.model.specs.Layout.{Operators, Rides, Stamps, Revisions, Index, PresenceStamps, PresenceRevisions, Presence, Board, mark_places, index_places, places, board_graph}
+use Rattle.model.specs.Layout.{Operators, Rides, Stamps, Revisions, Index, PresenceStamps, PresenceRevisions, Presence, Board, index_places, places, board_graph}
 use Rattle.model.specs.Refusal.{message_refusal, list_refusal}
 use Rattle.model.specs.Message.{board_after, board_message, ListOutcome}
 use Rattle.model.specs.Outcome.{listed_out}
@@ -16,7 +16,7 @@ use Rattle.model.proofs.Count.{by_test}
 use Rattle.model.proofs.Parts.{by_part}
 use Rattle.model.proofs.Refusal.{Accepted, taken_none, message_accepted, list_none}
 use Rattle.model.proofs.Taken.{message_code, accepted_after}
-use Rattle.pairs.specs.Accepted.{AcceptedPairs}
+use Rattle.index_board.specs.Filled.{Fillable}
 use Rattle.refusal_message.specs.Room.{Room}
 use Rattle.message_entry.specs.Enter.{with_index, entered, number_of, entered_valid}
 use Rattle.message_entry.proofs.Entering.{entered_none, entered_refused}
@@ -77,11 +77,10 @@ module _ (b : Board) (m : Message) (n : ℕ) (answers : List ℕ) (none : list_r
 
   -- x is the board once the message is entered, and code the message's number
   module _ (code : ℕ) (x : Board) (done : (code ≡ number_of b m) × (x ≡ entered_valid b m)) where
-    pub turn_ready : AcceptedPairs x.head (x.part Operators) (x.part Rides) × (mark_places x.head ≤ length (x.part Presence)) × (index_places x.head ≤ length (x.part Index))
+    pub turn_ready : Fillable x
     turn_ready =
         let t = (turn_accepted b m accepted).0.table in
-        subst (λ (y : Board). AcceptedPairs y.head (y.part Operators) (y.part Rides) × (mark_places y.head ≤ length (y.part Presence)) × (index_places y.head ≤ length (y.part Index))) (sym done.1)
-        (accepted_pairs (entered_valid b m) t, t.long Presence, t.long Index)
+        subst Fillable (sym done.1) (record { pairs = accepted_pairs (entered_valid b m) t; presence = t.long Presence; index = t.long Index })
 
     module _ (at : ℕ) where
       abbrev numbers : ℕ → List ℕ

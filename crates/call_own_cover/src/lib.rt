@@ -8,29 +8,24 @@ ghost use Rattle.refusal_kind.specs.Told.{counts_of};
 
 use limits::Asked;
 use limits_cover_pairs::cover_present;
-use model::{Counts, Head};
+use model::Counts;
 use refusal_kind::Refusal;
-use refusal_peel::check_lent;
+use refusal_peel::{CoverRef, check_lent};
 
 // Marks the cover (alpha, beta) with minimums, and answers the counts of operators and rides marked.
 pub fn own_cover(
-    head: Head,
-    operators: &[u16],
-    rides: &[u16],
-    presence: &[u16],
-    minimums: &[u16],
+    lent: CoverRef<'_>,
     alpha: u16,
     beta: u16,
     marks: &mut [u16],
 ) -> Result<Counts, Refusal>
     ensures { queried (counts_of result) marks.new
-        ≡ board_own_cover head operators.now rides.now presence.now minimums.now alpha beta
-        marks.old }
+        ≡ board_own_cover lent.entry.head lent.entry.operators.now lent.entry.rides.now lent.entry.presence.now lent.entry.minimums.now alpha beta marks.old }
 {
-    let table = check_lent(head, operators, rides, presence, minimums, marks)?;
+    let table = check_lent(lent, marks)?;
     let asked = Asked {
-        presence,
-        minimums,
+        presence: lent.presence,
+        minimums: lent.minimums,
         alpha,
         beta,
     };

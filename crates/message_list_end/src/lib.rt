@@ -3,13 +3,12 @@
 
 ghost use Rattle.std.specs.Prelude.{◌≡◌, ◌<◌, ◌≤◌, length};
 ghost use Rattle.model.specs.Count.{some};
-ghost use Rattle.model.specs.Layout.{mark_places, index_places, board_graph};
-ghost use Rattle.pairs.specs.Accepted.{AcceptedPairs};
+ghost use Rattle.model.specs.Layout.{board_graph};
 ghost use Rattle.part_board.specs.Lent.{mut_board, SameParts};
+ghost use Rattle.index_board.specs.Filled.{Fillable};
 ghost use Rattle.message_entry.specs.Enter.{with_index};
 ghost use Rattle.message_list_end.specs.Ending.{taken_at, filled_index, index_turned};
 
-use pairs::PairTable;
 use part_board::BoardMut;
 
 // Whether one of these numbers is 0.
@@ -21,29 +20,19 @@ fn any_taken(numbers: &[u16]) -> bool
 
 // Fills the index, if one of these numbers is 0.
 fn fill_taken(board: &mut BoardMut<'_>, numbers: &[u16])
-    requires pairs { AcceptedPairs board.old.head board.old.operators.now board.old.rides.now }
-    requires presence { mark_places board.old.head ≤ length board.old.presence.now }
-    requires index { index_places board.old.head ≤ length board.old.index.now }
+    requires { Fillable (mut_board board.old) }
     ensures same { SameParts board.old board.new }
     ensures done { mut_board board.new ≡ with_index (mut_board board.old)
         (filled_index (length numbers.now) (board_graph (mut_board board.old)) board.old.index.now numbers.now) }
 {
     if any_taken(numbers) {
-        let table = PairTable {
-            head: board.head,
-            operators: &mut *board.operators,
-            rides: &mut *board.rides,
-        };
-        let presence = &mut *board.presence;
-        index_fill::fill_index(table, presence, board.index);
+        index_board::fill_board(board);
     }
 }
 
 // Fills the index after the last of n turns, if one of their numbers is 0.
 pub fn finish(board: &mut BoardMut<'_>, at: usize, n: usize, numbers: &[u16])
-    requires pairs { AcceptedPairs board.old.head board.old.operators.now board.old.rides.now }
-    requires presence { mark_places board.old.head ≤ length board.old.presence.now }
-    requires index { index_places board.old.head ≤ length board.old.index.now }
+    requires index { Fillable (mut_board board.old) }
     requires turn { at < n }
     requires numbers { n ≤ length numbers.now }
     ensures same { SameParts board.old board.new }

@@ -8,7 +8,7 @@ use lib.Dec.{eqb}
 use lib.ListN.{length, get_or, drop, get_or-append}
 use Rattle.model.specs.declared.Message.{Message}
 use Rattle.model.specs.Graph.{index_of}
-use Rattle.model.specs.Layout.{Operators, Rides, Index, Presence, Board, mark_places, index_places, over, board_graph, differing}
+use Rattle.model.specs.Layout.{Index, Presence, Board, index_places, over, board_graph, differing}
 use Rattle.model.specs.Contents.{Contents, slot, entry, put, contents, words}
 use Rattle.model.specs.Refusal.{message_refusal}
 use Rattle.model.specs.Message.{board_after, board_message}
@@ -18,7 +18,7 @@ use Rattle.model.proofs.Parts.{by_part}
 use Rattle.model.proofs.Refusal.{Accepted, Valid, taken_none}
 use Rattle.model.proofs.Contents.{length_words, index_words}
 use Rattle.model.proofs.Taken.{accepted_after, message_taken}
-use Rattle.pairs.specs.Accepted.{AcceptedPairs}
+use Rattle.index_board.specs.Filled.{Fillable, filled_board}
 use Rattle.message_entry.specs.Enter.{Enters, with_index, entered}
 use Rattle.message_entry.proofs.Next.{enters_of, entered_pairs}
 
@@ -36,11 +36,11 @@ module _ (b : Board) (m : Message) (none : message_refusal b m ≡ 0) where
   take_ready = enters_of b m accepted valid
 
   -- the index can be filled once it is entered
-  pub fill_ready : (x : Board) → x ≡ entered b m → AcceptedPairs x.head (x.part Operators) (x.part Rides) × (mark_places x.head ≤ length (x.part Presence)) × (index_places x.head ≤ length (x.part Index))
+  pub fill_ready : (x : Board) → x ≡ entered b m → Fillable x
   unfolding entered board_after
   fill_ready x q =
-      subst (λ (y : Board). AcceptedPairs y.head (y.part Operators) (y.part Rides) × (mark_places y.head ≤ length (y.part Presence)) × (index_places y.head ≤ length (y.part Index))) (sym q)
-      (entered_pairs b m accepted valid, (accepted_after b m accepted valid).table.long Presence, accepted.table.long Index)
+      subst Fillable (sym q)
+      (record { pairs = entered_pairs b m accepted valid; presence = (accepted_after b m accepted valid).table.long Presence; index = accepted.table.long Index })
 
   -- the index of the pairs that then count
   index_after : index_of (board_graph (entered b m)) ≡ words b.head after Index
@@ -62,13 +62,13 @@ module _ (b : Board) (m : Message) (none : message_refusal b m ≡ 0) where
       count_ext (λ (i : ℕ). not (eqb (get_or old i 0) (get_or (over new old) i 0))) (λ (i : ℕ). not (eqb (get_or old i 0) (get_or new i 0))) (index_places b.head)
       (λ i k. ap (λ (z : ℕ). not (eqb (get_or old i 0) z)) (get_or-append new (drop (length new) old) 0 i (omega arith)))
 
-  pub take_done : (x : Board) → x ≡ entered b m → (differ : ℕ) (index : List ℕ) → index ≡ over (index_of (board_graph x)) (x.part Index) → differ ≡ differing (index_places x.head) (x.part Index) (index_of (board_graph x)) → answered (record { code = 0; differ = differ }) (with_index x index) ≡ board_message b m
+  pub take_done : (x : Board) → x ≡ entered b m → (differ : ℕ) (y : Board) → y ≡ filled_board x → differ ≡ differing (index_places x.head) (x.part Index) (index_of (board_graph x)) → answered (record { code = 0; differ = differ }) y ≡ board_message b m
   unfolding board_after entered
-  take_done x q differ index i d =
+  take_done x q differ y i d =
       let new : List ℕ = words b.head after Index in
-      let filled = i ∙ ap (λ (y : Board). over (index_of (board_graph y)) (y.part Index)) q ∙ ap (λ (l : List ℕ). over l (b.part Index)) index_after in
+      let filled = i ∙ ap filled_board q ∙ ap (λ (l : List ℕ). with_index (entered b m) (over l (b.part Index))) index_after in
       let counted =
       d ∙ ap (λ (y : Board). differing (index_places y.head) (y.part Index) (index_of (board_graph y))) q ∙ ap (differing (index_places b.head) (b.part Index)) index_after ∙
       sym (differing_over new (omega (arith, length_words b.head after Index))) in
-      ap₂ (λ (n : ℕ) (y : Board). answered (record { code = 0; differ = n }) y) counted (ap₂ with_index q filled ∙ whole) ∙
+      ap₂ (λ (n : ℕ) (z : Board). answered (record { code = 0; differ = n }) z) counted (filled ∙ whole) ∙
       sym (message_taken b m none)

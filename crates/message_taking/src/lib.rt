@@ -8,7 +8,6 @@ ghost use Rattle.part_board.specs.Lent.{mut_board, SameParts};
 ghost use Rattle.message_taking.specs.Deliver.{outcome_of};
 
 use model::Message;
-use pairs::PairTable;
 use part_board::BoardMut;
 
 // Takes a message that is not refused: it is entered, and the index is filled anew. How many index words differ before and after.
@@ -18,11 +17,5 @@ pub fn take(board: &mut BoardMut<'_>, message: Message) -> u16
     ensures outcome { outcome_of (Ok result) (mut_board board.new) ≡ board_message (mut_board board.old) message }
 {
     message_entry::enter(board, message);
-    let table = PairTable {
-        head: board.head,
-        operators: &mut *board.operators,
-        rides: &mut *board.rides,
-    };
-    let presence = &mut *board.presence;
-    index_fill::fill_index(table, presence, board.index)
+    index_board::fill_board(board)
 }

@@ -7,7 +7,6 @@ ghost use Rattle.model.specs.Count.{bit};
 ghost use Rattle.model.specs.Layout.{mark_places};
 ghost use Rattle.model.specs.Contents.{giving, slot};
 ghost use Rattle.model.specs.Refusal.{refused_10};
-ghost use Rattle.message_order.specs.Slot.{slot_is};
 ghost use Rattle.part_board.specs.Lent.{ref_board};
 ghost use Rattle.arrays.specs.Filled.{filled};
 ghost use Rattle.part_presence.specs.Presence.{node_place};
@@ -31,11 +30,11 @@ pub fn set_all(head: Head, stamps: &mut [u32], revisions: &mut [u16], presence: 
     arrays::fill(presence, 0, nodes, 1);
 }
 
-// The place of an operator or ride; a pair has none.
-fn place(head: Head, slot: Slot) -> usize
-    ensures { result ≡ node_place head (slot_is slot) }
+// The place of a message's operator or ride; a pair has none.
+fn place(head: Head, message: Message) -> usize
+    ensures { result ≡ node_place head (slot message) }
 {
-    match slot {
+    match Slot::from(message) {
         Slot::Pair { .. } => 0,
         Slot::Operator(operator) => operator as usize,
         Slot::Ride(ride) => head.operators as usize + ride as usize,
@@ -50,18 +49,11 @@ pub fn not_later(board: BoardRef<'_>, message: Message) -> bool
     requires words { node_place board.head (slot message) < length board.presence.now }
     ensures { result ≡ refused_10 (ref_board board.entry) message }
 {
-    let at = place(board.head, Slot::from(message));
+    let at = place(board.head, message);
     let stamp = board.presence_stamps[at];
     let revision = board.presence_revisions[at];
     let word = board.presence[at];
     !message_order::is_later(message, stamp, revision, word == 1)
-}
-
-// The word of a kind: 1 where it gives, else 0.
-fn word(kind: u16) -> u16
-    ensures { result ≡ bit (giving kind) }
-{
-    u16::from(message_order::gives(kind))
 }
 
 // Stores the stamp, the revision and the word of a taken message for an operator or ride.
@@ -79,8 +71,8 @@ pub fn store(
     ensures revisions { revisions.new ≡ set revisions.old (node_place head (slot message)) message.revision }
     ensures words { presence.new ≡ set presence.old (node_place head (slot message)) (bit (giving message.kind)) }
 {
-    let at = place(head, Slot::from(message));
+    let at = place(head, message);
     stamps[at] = message.stamp;
     revisions[at] = message.revision;
-    presence[at] = word(message.kind);
+    presence[at] = u16::from(message_order::gives(message.kind));
 }

@@ -12,24 +12,28 @@ use pairs::PairTable;
 use refusal_kind::Refusal;
 use refusal_table::check_table;
 
+// What a peel, or a cover found by one, is lent to read: the pair arrays with their head, the presence words and the rides' minimums.
+#[derive(Clone, Copy)]
+pub struct CoverRef<'a> {
+    pub head: Head,
+    pub operators: &'a [u16],
+    pub rides: &'a [u16],
+    pub presence: &'a [u16],
+    pub minimums: &'a [u16],
+}
+
 // Whether a pair array is shorter than operators × rides, the presence words or the marks than operators + rides, or the minimums than rides.
-fn short_peel(
-    head: Head,
-    operators: &[u16],
-    rides: &[u16],
-    presence: &[u16],
-    minimums: &[u16],
-    marks: &[u16],
-) -> bool
-    ensures { result ≡ peel_short head operators.now rides.now presence.now minimums.now marks.now }
+fn short_peel(lent: CoverRef<'_>, marks: &[u16]) -> bool
+    ensures { result
+        ≡ peel_short lent.entry.head lent.entry.operators.now lent.entry.rides.now lent.entry.presence.now lent.entry.minimums.now marks.now }
 {
-    let n = head.operators as usize;
-    let m = head.rides as usize;
+    let n = lent.head.operators as usize;
+    let m = lent.head.rides as usize;
     let places = n * m;
-    operators.len() < places
-        || rides.len() < places
-        || presence.len() < n + m
-        || minimums.len() < m
+    lent.operators.len() < places
+        || lent.rides.len() < places
+        || lent.presence.len() < n + m
+        || lent.minimums.len() < m
         || marks.len() < n + m
 }
 
@@ -50,37 +54,24 @@ fn bad_marks(head: Head, marks: &[u16]) -> bool
 }
 
 // 1 to 5, of what is lent to a peel, and to a cover found by one; or the pair table.
-pub fn check_lent<'a>(
-    head: Head,
-    operators: &'a [u16],
-    rides: &'a [u16],
-    presence: &[u16],
-    minimums: &[u16],
-    marks: &[u16],
-) -> Result<PairTable<'a>, Refusal>
+pub fn check_lent<'a>(lent: CoverRef<'a>, marks: &[u16]) -> Result<PairTable<'a>, Refusal>
     ensures refused { number_of result
         ≡ first_number
-        (peel_cases head operators.now rides.now presence.now minimums.now marks.now) }
-    ensures table { IfOk result (λ t. (t.head ≡ head) × (t.operators.now ≡ operators.now) × (t.rides.now ≡ rides.now)) }
+        (peel_cases lent.entry.head lent.entry.operators.now lent.entry.rides.now lent.entry.presence.now lent.entry.minimums.now marks.now) }
+    ensures table { IfOk result (λ t. (t.head ≡ lent.entry.head) × (t.operators.now ≡ lent.entry.operators.now) × (t.rides.now ≡ lent.entry.rides.now)) }
 {
-    let short = short_peel(head, operators, rides, presence, minimums, marks);
-    check_table(head, short, operators, rides)
+    let short = short_peel(lent, marks);
+    check_table(lent.head, short, lent.operators, lent.rides)
 }
 
 // 1 to 5 and 12; or the pair table.
-pub fn check_peel<'a>(
-    head: Head,
-    operators: &'a [u16],
-    rides: &'a [u16],
-    presence: &[u16],
-    minimums: &[u16],
-    marks: &[u16],
-) -> Result<PairTable<'a>, Refusal>
-    ensures refused { number_of result ≡ peel_refusal head operators.now rides.now presence.now minimums.now marks.now }
-    ensures table { IfOk result (λ t. (t.head ≡ head) × (t.operators.now ≡ operators.now) × (t.rides.now ≡ rides.now)) }
+pub fn check_peel<'a>(lent: CoverRef<'a>, marks: &[u16]) -> Result<PairTable<'a>, Refusal>
+    ensures refused { number_of result
+        ≡ peel_refusal lent.entry.head lent.entry.operators.now lent.entry.rides.now lent.entry.presence.now lent.entry.minimums.now marks.now }
+    ensures table { IfOk result (λ t. (t.head ≡ lent.entry.head) × (t.operators.now ≡ lent.entry.operators.now) × (t.rides.now ≡ lent.entry.rides.now)) }
 {
-    let table = check_lent(head, operators, rides, presence, minimums, marks)?;
-    if bad_marks(head, marks) {
+    let table = check_lent(lent, marks)?;
+    if bad_marks(lent.head, marks) {
         return Err(Refusal::BadMark);
     }
     Ok(table)

@@ -3,6 +3,7 @@
 
 use frames::Words;
 use model::{Band, Bands, Counts, Head};
+use refusal_peel::CoverRef;
 use replay_memory::Memory;
 use std::io;
 use std::io::Write;
@@ -50,13 +51,15 @@ pub fn cover<W: Write>(
     memory: &mut Memory<'_>,
 ) -> io::Result<()> {
     let counts = call_crowd_cover::crowd_cover(
-        head,
-        memory.operators.read(),
-        memory.rides.read(),
-        memory.presence.read(),
+        CoverRef {
+            head,
+            operators: memory.operators.read(),
+            rides: memory.rides.read(),
+            presence: memory.presence.read(),
+            minimums: memory.minimums.read(),
+        },
         bands,
         guests,
-        memory.minimums.read(),
         memory.marks.lent(),
     )
     .unwrap_or_else(Counts::from);

@@ -5,6 +5,7 @@
 use frames::Words;
 use model::{Counts, Head, Peeled};
 use refusal_kind::Refusal;
+use refusal_peel::CoverRef;
 use replay_memory::Memory;
 use std::io;
 use std::io::Write;
@@ -67,11 +68,13 @@ pub fn peel<W: Write>(
     let steps = words.word();
     memory.load_cover(words);
     let peeled = call_peel::peel(
-        head,
-        memory.operators.read(),
-        memory.rides.read(),
-        memory.presence.read(),
-        memory.minimums.read(),
+        CoverRef {
+            head,
+            operators: memory.operators.read(),
+            rides: memory.rides.read(),
+            presence: memory.presence.read(),
+            minimums: memory.minimums.read(),
+        },
         memory.marks.lent(),
         alpha,
         beta,
@@ -90,11 +93,13 @@ pub fn cover<W: Write>(
     memory: &mut Memory<'_>,
 ) -> io::Result<()> {
     let counts = call_own_cover::own_cover(
-        head,
-        memory.operators.read(),
-        memory.rides.read(),
-        memory.presence.read(),
-        memory.minimums.read(),
+        CoverRef {
+            head,
+            operators: memory.operators.read(),
+            rides: memory.rides.read(),
+            presence: memory.presence.read(),
+            minimums: memory.minimums.read(),
+        },
         alpha,
         beta,
         memory.marks.lent(),

@@ -13,11 +13,8 @@ enter_valid-entered-requires c = let a = c.args in turn_room (mut_board a.board.
 pub finish-requires : goal.finish-requires
 finish-requires c = let a = c.args in
     let e = c.enter_valid-entered.ensures in
-    let r = turn_ready (mut_board a.board.now) a.message a.n a.answers.now c.requires.list _ (mut_board c.enter_valid-entered.new.board) (e.number, e.done) in
     record {
-      pairs = r.0;
-      presence = r.1;
-      index = r.2;
+      index = turn_ready (mut_board a.board.now) a.message a.n a.answers.now c.requires.list _ (mut_board c.enter_valid-entered.new.board) (e.number, e.done);
       turn = c.requires.turn;
       numbers = simp length-set (turn_answers (mut_board a.board.now) a.message a.n a.answers.now c.requires.list);
     }

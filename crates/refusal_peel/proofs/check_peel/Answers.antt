@@ -10,16 +10,16 @@ pub returns-in_err-table-clause-refused : goal.returns-in_err-table-clause-refus
 returns-in_err-table-clause-refused c = let a = c.args in
     let r = c.in_err-table.field-0.0 in
     let same : number_of c.from_residual.result ≡ number r = search rules in
-    same ∙ peel_table a.head a.operators.now a.rides.now a.presence.now a.minimums.now a.marks.now _ c.in_err-table.ensures.refused (refused r)
+    same ∙ peel_table a.lent.head a.lent.operators.now a.lent.rides.now a.lent.presence.now a.lent.minimums.now a.marks.now _ c.in_err-table.ensures.refused (refused r)
 
 pub bad_marks-requires : goal.bad_marks-requires
 bad_marks-requires c = let a = c.args in
-    marks_long a.head a.operators.now a.rides.now a.presence.now a.minimums.now a.marks.now _ c.in_ok-table.ensures.refused refl
+    marks_long a.lent.head a.lent.operators.now a.lent.rides.now a.lent.presence.now a.lent.minimums.now a.marks.now _ c.in_ok-table.ensures.refused refl
 
 pub returns-then-bad_marks-clause-refused : goal.returns-then-bad_marks-clause-refused
 returns-then-bad_marks-clause-refused c = let a = c.args in
-    peel_12 a.head a.operators.now a.rides.now a.presence.now a.minimums.now a.marks.now _ c.in_ok-table.ensures.refused refl (sym c.bad_marks.ensures ∙ c.if-bad_marks.true)
+    peel_12 a.lent.head a.lent.operators.now a.lent.rides.now a.lent.presence.now a.lent.minimums.now a.marks.now _ c.in_ok-table.ensures.refused refl (sym c.bad_marks.ensures ∙ c.if-bad_marks.true)
 
 pub returns-clause-refused : goal.returns-clause-refused
 returns-clause-refused c = let a = c.args in
-    peel_0 a.head a.operators.now a.rides.now a.presence.now a.minimums.now a.marks.now _ c.in_ok-table.ensures.refused refl (sym c.bad_marks.ensures ∙ c.if-bad_marks.false)
+    peel_0 a.lent.head a.lent.operators.now a.lent.rides.now a.lent.presence.now a.lent.minimums.now a.marks.now _ c.in_ok-table.ensures.refused refl (sym c.bad_marks.ensures ∙ c.if-bad_marks.false)
