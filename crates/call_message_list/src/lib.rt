@@ -15,7 +15,7 @@ use refusal_kind::Refusal;
 
 // One of n messages of a list: it is entered and its number stored at its place, and after the last one the index is filled.
 #[tactic(auto, using(crate::proofs::Once::turn_answers))]
-fn turn(board: &mut BoardMut<'_>, message: Message, at: usize, n: usize, answers: &mut [u16])
+pub fn turn(board: &mut BoardMut<'_>, message: Message, at: usize, n: usize, answers: &mut [u16])
     requires list { list_refusal (mut_board board.old) n answers.old ≡ 0 }
     requires turn { at < n }
     ensures same { SameParts board.old board.new }

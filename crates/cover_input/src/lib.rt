@@ -29,7 +29,7 @@ pub fn copy_words(input: &[u8], start: usize, n: usize, to: &mut [u16])
 }
 
 // The head, from the first three words.
-fn head_of(input: &[u8]) -> Head
+pub fn head_of(input: &[u8]) -> Head
     requires { 6 ≤ length input.now }
     ensures { result ≡ head input.now }
 {

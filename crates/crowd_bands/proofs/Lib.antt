@@ -2,3 +2,4 @@ pub mod Any
 pub mod Sums
 pub mod Table
 pub mod Looked
+pub mod Stored

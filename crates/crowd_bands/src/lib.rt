@@ -7,6 +7,7 @@ ghost use Rattle.model.specs.Count.{some};
 ghost use Rattle.model.specs.Crowd.{most_guests, band, falls_in as falls, board_crowd_limits};
 ghost use Rattle.crowd_bands.specs.Bands.{at, malformed, shares, first_of, last_of, malformed_at, shares_earlier, widths as added_up};
 ghost use Rattle.crowd_bands.specs.Answer.{crowd_answer};
+ghost use Rattle.crowd_bands.specs.Words.{WordsUpTo};
 
 use model::{Band, Bands, CrowdLimits};
 use refusal_kind::Refusal;
@@ -146,4 +147,19 @@ pub fn crowd_limits(bands: Bands, guests: u16) -> CrowdLimits
             beta: limits.beta,
         },
     )
+}
+
+// The words of a table, four a band, for a reader that is lent words.
+pub fn words(bands: Bands) -> [u16; 32]
+    ensures { WordsUpTo 8 bands result }
+{
+    let mut all = [0u16; 32];
+    for i in 0..8 {
+        let band = bands.bands[i];
+        all[i * 4] = band.first;
+        all[i * 4 + 1] = band.last;
+        all[i * 4 + 2] = band.alpha;
+        all[i * 4 + 3] = band.beta;
+    }
+    all
 }

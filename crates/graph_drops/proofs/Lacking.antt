@@ -1,23 +1,21 @@
 -- Who falls short, by two bytes: the degree and the limit; and where to look on after a node was dropped.
-use mathlib.Core.Path.{◌≡◌, refl, sym, ap, ap₂, ◌∙◌, subst}
+use mathlib.Core.Path.{◌≡◌, sym, ap, ap₂, ◌∙◌, subst}
 use mathlib.Core.Logic.{◌≢◌}
 use mathlib.Core.Bool.{Bool, true, false, ◌&&◌}
 use mathlib.Core.List.{List}
 use Prim.Native.Nat.{ℕ, ◌≤◌, ◌<◌, min}
 use native.Mathlib.Omega.{arith}
 use native.Mathlib.Decide.{dec_lt, ℕ_discrete}
-use lib.Dec.{T, ltb, leb, le→leb, lt→ltb, ltb→lt}
+use lib.Dec.{T, ltb, leb, le→leb}
 use borrow.Author.Tests.{lt-ltb, le-ltb, lt-leb, le-leb}
 use lib.ListN.{get_or, set}
-use Rattle.std.specs.Prelude.{Option, Some, None, MatchOption}
 use Rattle.model.specs.Count.{count, some, lowest}
 use Rattle.model.specs.Graph.{Graph, nodes, degree, marked, short}
 use Rattle.model.proofs.Count.{by_test, test_true, test_false, and_left, and_both, and_false, some_holds, lowest_ext}
-use Rattle.model.proofs.Search.{NoneBefore, lowest_found, lowest_none}
 use Rattle.model.proofs.Peel.{marked_cleared, marked_other, degree_same_operator, degree_same_ride}
 use Rattle.model.proofs.Cover.{degree_operator_le, degree_ride_le}
 use Rattle.limits.specs.Limits.{byte_limit}
-use Rattle.graph_drops.specs.Drop.{lacks, IsLowest, looked_from, Held}
+use Rattle.graph_drops.specs.Drop.{lacks, looked_from, Held}
 use Rattle.graph_drops.proofs.Drop.{byte_unmarked}
 
 -- a degree below 255 is below a limit exactly if it is below the limit in a byte
@@ -123,16 +121,3 @@ module _ (g : Graph) (few : g.operators ≤ 200) (few' : g.rides ≤ 60) (limit 
 
   pub looked_inside : looked_from degrees limits n x ≤ nodes g
   looked_inside = by_test (again degrees limits n x) (λ k. omega (arith, from_start degrees limits n x (test_true (again degrees limits n x) k))) (λ k. omega (arith, from_x degrees limits n x (test_false (again degrees limits n x) k)))
-
--- what a search from `from` on finds is the lowest that falls short, where none before does
-module _ (degrees limits : List ℕ) (from nodes : ℕ) (before : NoneBefore (lacks degrees limits) from) where
-  none_before : (x : ℕ) → ((y : ℕ) → from ≤ y → y < x → get_or limits y 0 ≤ get_or degrees y 0) → NoneBefore (lacks degrees limits) x
-  none_before x none y l t =
-      elim (dec_lt y from) [
-        | yes k ↦ before y k t
-        | no k ↦ (let z : ⊥ = omega (arith, none y (omega arith) l, ltb→lt _ _ t) in z)
-      ]
-
-  pub lowest_from : (r : Option ℕ) → MatchOption r ((y : ℕ) → from ≤ y → y < nodes → get_or limits y 0 ≤ get_or degrees y 0) (λ x. (x < nodes) × (get_or degrees x 0 < get_or limits x 0) × ((y : ℕ) → from ≤ y → y < x → get_or limits y 0 ≤ get_or degrees y 0)) → IsLowest r nodes (lowest nodes (lacks degrees limits))
-  lowest_from None none = sym (lowest_none _ nodes nodes refl (none_before nodes none))
-  lowest_from (Some x) found = (found.0, lowest_found _ nodes x found.0 (none_before x found.2) (lt→ltb _ _ found.1))

@@ -38,7 +38,12 @@ pub fn lowest_short(
     requires { (from ≤ nodes) × (nodes ≤ 260) × ((x : ℕ) → x < from → T (lacks degrees.now limits.now x) → ⊥) }
     ensures { IsLowest result nodes (lowest nodes (lacks degrees.now limits.now)) }
 {
-    (from..nodes).find(|x| degrees[*x] < limits[*x])
+    for x in from..nodes {
+        if degrees[x] < limits[x] {
+            return Some(x);
+        }
+    }
+    None
 }
 
 // Subtracts a row from the degrees that start at from.

@@ -1,2 +1,3 @@
+pub mod AnyIndex
 pub mod Entering
 pub mod Next

@@ -9,8 +9,12 @@ pub fn insert(array: &mut [u16], place: usize, n: usize, word: u16)
     requires { (place ≤ n) × (n < length array.old) }
     ensures { Inserted place n word array.old array.new }
 {
-    array[n] = word;
-    array[place..n + 1].rotate_right(1);
+    let mut carried = word;
+    for i in place..n + 1 {
+        let next = array[i];
+        array[i] = carried;
+        carried = next;
+    }
 }
 
 // Removes the word at a place of the first n words; each word behind it moves down by one place.
@@ -18,5 +22,7 @@ pub fn remove(array: &mut [u16], place: usize, n: usize)
     requires { (place < n) × (n ≤ length array.old) }
     ensures { Removed place n array.old array.new }
 {
-    array[place..n].rotate_left(1);
+    for i in place..n - 1 {
+        array[i] = array[i + 1];
+    }
 }

@@ -2,12 +2,11 @@
 // the message is later than its last, and the store of a taken message.
 #![tactic(auto)]
 
-ghost use Rattle.std.specs.Prelude.{◌≡◌, ◌≤◌, ◌<◌, length, set};
+ghost use Rattle.std.specs.Prelude.{◌≡◌, List, ℕ, ◌≤◌, ◌<◌, length, set};
 ghost use Rattle.model.specs.Count.{bit};
-ghost use Rattle.model.specs.Layout.{mark_places};
+ghost use Rattle.model.specs.Layout.{lent, mark_places};
 ghost use Rattle.model.specs.Contents.{giving, slot};
 ghost use Rattle.model.specs.Refusal.{refused_10};
-ghost use Rattle.part_board.specs.Lent.{ref_board};
 ghost use Rattle.arrays.specs.Filled.{filled};
 ghost use Rattle.part_presence.specs.Presence.{node_place};
 
@@ -47,7 +46,9 @@ pub fn not_later(board: BoardRef<'_>, message: Message) -> bool
     requires stamps { node_place board.head (slot message) < length board.presence_stamps.now }
     requires revisions { node_place board.head (slot message) < length board.presence_revisions.now }
     requires words { node_place board.head (slot message) < length board.presence.now }
-    ensures { result ≡ refused_10 (ref_board board.entry) message }
+    ensures { (operators rides stamps' revisions' index : List ℕ) → result ≡ refused_10
+        (lent board.entry.head operators rides stamps' revisions' index
+        board.entry.presence_stamps.now board.entry.presence_revisions.now board.entry.presence.now) message }
 {
     let at = place(board.head, message);
     let stamp = board.presence_stamps[at];

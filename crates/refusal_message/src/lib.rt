@@ -1,8 +1,8 @@
 // The refusals of documents 01 and 02 of a message, a preview and a message list: the first number that applies, if any does.
 #![tactic(auto)]
 
-ghost use Rattle.std.specs.Prelude.{◌≡◌, false, ◌||◌, ◌≤◌, length};
-ghost use Rattle.model.specs.Layout.{pair_places, of_parts};
+ghost use Rattle.std.specs.Prelude.{◌≡◌, false, ◌||◌, List, ℕ, ◌≤◌, length};
+ghost use Rattle.model.specs.Layout.{lent, pair_places, of_parts};
 ghost use Rattle.model.specs.Refusal.{refused_3, refused_10, board_short, first_number, board_cases, valid_cases, message_cases};
 ghost use Rattle.model.specs.Refusal.{message_refusal, preview_refusal, list_refusal};
 ghost use Rattle.part_board.specs.Lent.{ref_board};
@@ -29,13 +29,15 @@ fn check_board(board: BoardRef<'_>, short: bool) -> Result<(), Refusal>
     Ok(())
 }
 
-// Whether 10 applies to a valid message, on a board to which 1 to 6 do not apply. Put into its callers, it would have the compiler keep words below the
-// stack pointer, which the gate refuses.
-#[inline(never)]
-fn not_later(board: BoardRef<'_>, message: Message) -> bool
+// Whether 10 applies to a valid message, on a board to which 1 to 6 do not apply. It is put into the calls, as `check_message_on` is: those have a frame,
+// where a function of its own would keep words below the stack pointer, which the gate refuses; and a list then makes no `BoardRef` for each message.
+#[inline(always)]
+pub fn not_later(board: BoardRef<'_>, message: Message) -> bool
     requires ready { Ready (ref_board board) }
     requires valid { first_number (valid_cases board.head message) ≡ 0 }
-    ensures { result ≡ refused_10 (ref_board board.entry) message }
+    ensures { (index : List ℕ) → result ≡ refused_10
+        (lent board.entry.head board.entry.operators.now board.entry.rides.now board.entry.stamps.now board.entry.revisions.now index
+        board.entry.presence_stamps.now board.entry.presence_revisions.now board.entry.presence.now) message }
 {
     match Slot::from(message) {
         Slot::Pair { .. } => {
@@ -51,6 +53,7 @@ fn not_later(board: BoardRef<'_>, message: Message) -> bool
 }
 
 // 7 to 9, 14, 15 and 10 of a message, on a board to which 1 to 6 do not apply.
+#[inline(always)]
 pub fn check_message_on(board: BoardRef<'_>, message: Message) -> Result<(), Refusal>
     requires { Ready (ref_board board) }
     ensures { number_of result ≡ first_number (message_cases (ref_board board.entry) message) }

@@ -1,21 +1,16 @@
 -- The numbers of a peel or a cover, test by test: 3, and 12 behind those of a pair table.
-use mathlib.Core.Path.{◌≡◌, sym, ap, ◌∙◌, subst}
+use mathlib.Core.Path.{◌≡◌, sym, ap, ◌∙◌}
 use mathlib.Core.Logic.{◌≢◌}
 use mathlib.Core.Bool.{Bool, true, false}
 use mathlib.Core.List.{List, [], ◌∷◌, ◌++◌}
-use Prim.Native.Nat.{ℕ, ◌≤◌}
-use native.Mathlib.Omega.{arith}
-use lib.Dec.{T, ltb}
-use Rattle.std.specs.List.{list_any}
-use Rattle.std.proofs.lemmas.List.{get_or-take, get_or_default, length-take}
-use Rattle.std.proofs.lemmas.List.Folds.{Any-from_list_any, list_any_at}
-use Rattle.model.specs.Count.{some}
-use Rattle.model.proofs.Count.{test_true, test_ext, some_holds, some_witness}
-use lib.ListN.{length, get_or, take}
+use Prim.Native.Nat.{ℕ, ◌≤◌, ◌<◌}
+use lib.Dec.{ltb, lt→ltb}
+use lib.ListN.{length, get_or}
 use Rattle.model.specs.declared.Head.{Head}
 use Rattle.model.specs.Layout.{mark_places}
 use Rattle.model.specs.Refusal.{refused_12, first_number, peel_short, peel_cases, peel_refusal}
-use Rattle.model.proofs.Chain.{last_here, last_skip}
+use Rattle.model.proofs.Search.{some_true, some_false}
+use Rattle.model.proofs.Chain.{last_here, last_skip, not_less}
 use Rattle.model.proofs.Refusal.{peel_lent}
 use Rattle.pairs.specs.Accepted.{AcceptedPairs}
 use Rattle.refusal_table.proofs.Chain.{table_first, table_rest, table_accepted}
@@ -53,18 +48,11 @@ module _ (h : Head) (operators rides presence minimums marks : List ℕ) where
 
 -- ---- 12
 
--- a mark in use is bad where one of the first marks is
-pub any_bad : (h : Head) (marks : List ℕ) → mark_places h ≤ length marks → list_any (λ (m : ℕ). ltb 1 m) (take (mark_places h) marks) ≡ refused_12 h marks
-unfolding refused_12
-any_bad h marks l =
-    let w : ℕ = mark_places h in
-    let bad : ℕ → Bool = λ m. ltb 1 m in
-    let at : ℕ → Bool = λ x. ltb 1 (get_or marks x 0) in
-    let long : length (take w marks) ≡ w = omega (arith, length-take {A = ℕ}) in
-    test_ext (list_any bad (take w marks)) (some w at)
-    (λ t.
-    let a = Any-from_list_any bad (take w marks) (test_true (list_any bad (take w marks)) t) in
-    some_holds at w a.0 (omega (arith, long, a.2)) (subst T (sym (ap bad (sym (get_or-take w marks a.0 0 (omega (arith, long, a.2))) ∙ get_or_default (take w marks) a.0 0 a.1 a.2 ∙ a.3) ∙ a.4)) tt))
-    (λ t.
-    let a = some_witness at w t in
-    subst T (sym (list_any_at bad (take w marks) a.0 0 (omega (arith, long, a.1)) (ap bad (get_or-take w marks a.0 0 a.1) ∙ test_true (at a.0) a.2))) tt)
+module _ (h : Head) (marks : List ℕ) where
+  pub bad_mark : (i : ℕ) → i < mark_places h → 1 < get_or marks i 0 → true ≡ refused_12 h marks
+  unfolding refused_12
+  bad_mark i k l = some_true (λ x. ltb 1 (get_or marks x 0)) (mark_places h) i k (lt→ltb 1 (get_or marks i 0) l)
+
+  pub good_marks : ((i : ℕ) → i < mark_places h → get_or marks i 0 ≤ 1) → false ≡ refused_12 h marks
+  unfolding refused_12
+  good_marks f = some_false (λ x. ltb 1 (get_or marks x 0)) (mark_places h) (λ i k. not_less 1 (get_or marks i 0) (f i k))

@@ -1,8 +1,7 @@
 // Document 01's refusals of a peel, and of a cover found by one: the one of the lowest number that applies, if any does.
 #![tactic(auto)]
 
-ghost use Rattle.std.specs.Prelude.{◌≡◌, ◌≤◌, IfOk, length, ltb};
-ghost use Rattle.std.specs.List.{list_any};
+ghost use Rattle.std.specs.Prelude.{◌≡◌, ◌≤◌, IfOk, length};
 ghost use Rattle.model.specs.Layout.{mark_places};
 ghost use Rattle.model.specs.Refusal.{refused_12, first_number, peel_short, peel_cases, peel_refusal};
 ghost use Rattle.refusal_kind.specs.Number.{number_of};
@@ -37,20 +36,18 @@ fn short_peel(lent: CoverRef<'_>, marks: &[u16]) -> bool
         || marks.len() < n + m
 }
 
-// Whether one of these marks is not 0 or 1.
-fn any_bad(marks: &[u16]) -> bool
-    ensures { result ≡ list_any (λ m. ltb 1 m) marks.now }
-{
-    marks.iter().any(|mark| 1 < *mark)
-}
-
 // Whether a mark in use is not 0 or 1.
 fn bad_marks(head: Head, marks: &[u16]) -> bool
     requires { mark_places head ≤ length marks.now }
     ensures { result ≡ refused_12 head marks.now }
 {
     let w = head.operators as usize + head.rides as usize;
-    any_bad(&marks[..w])
+    for i in 0..w {
+        if 1 < marks[i] {
+            return true;
+        }
+    }
+    false
 }
 
 // 1 to 5, of what is lent to a peel, and to a cover found by one; or the pair table.

@@ -7,7 +7,7 @@ use model::Head;
 use part_board::{BoardMut, BoardRef};
 
 // The checksum of a head.
-fn head_checksum(head: Head) -> u64 {
+pub fn head_checksum(head: Head) -> u64 {
     let operators = lent_parts::add(0, u32::from(head.operators));
     let rides = lent_parts::add(operators, u32::from(head.rides));
     lent_parts::add(rides, u32::from(head.pairs))

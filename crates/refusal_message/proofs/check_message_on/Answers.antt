@@ -15,8 +15,8 @@ returns-in_err-check_valid c = let a = c.args in
 
 pub returns-then-not_later : goal.returns-then-not_later
 returns-then-not_later c = let a = c.args in
-    entry_10 (ref_board a.board) a.message _ c.in_ok-check_valid.ensures refl (sym c.not_later.ensures ∙ c.if-not_later.true)
+    entry_10 (ref_board a.board) a.message _ c.in_ok-check_valid.ensures refl (sym (c.not_later.ensures a.board.index.now) ∙ c.if-not_later.true)
 
 pub returns : goal.returns
 returns c = let a = c.args in
-    entry_0 (ref_board a.board) a.message _ c.in_ok-check_valid.ensures refl (sym c.not_later.ensures ∙ c.if-not_later.false)
+    entry_0 (ref_board a.board) a.message _ c.in_ok-check_valid.ensures refl (sym (c.not_later.ensures a.board.index.now) ∙ c.if-not_later.false)

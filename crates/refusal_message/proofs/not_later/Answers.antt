@@ -23,4 +23,8 @@ not_later-requires-in_default c = let a = c.args in
 
 pub returns-in-Pair : goal.returns-in-Pair
 returns-in-Pair c = let b = c.args.board in
-    c.not_later.ensures b.index.now b.presence_stamps.now b.presence_revisions.now b.presence.now
+    λ index. c.not_later.ensures index b.presence_stamps.now b.presence_revisions.now b.presence.now
+
+pub returns-in_default : goal.returns-in_default
+returns-in_default c = let b = c.args.board in
+    c.not_later-in_default.ensures b.operators.now b.rides.now b.stamps.now b.revisions.now
