@@ -59,7 +59,7 @@
  * For firmware (docs/INTERFACE.md says more):
  * - x86-64, System V calling convention, SSE2 and no more; no use of the red zone below the stack pointer.
  * - Deepest stack in bytes, measured at 200 x 60 (docs/BENCHMARK.md): build 26,864, query 208, peel 26,368, own cover
- *   26,768, look-up 128, crowd cover 26,848, message 27,120, message list 27,168, preview 27,376.
+ *   26,768, look-up 128, crowd cover 26,848, message 27,120, message list 27,168, preview 27,520.
  * - No writable data; of the program it needs memcpy, memmove and memset at most.
  * - A reset in the middle of a call leaves a mixture of old and new words in what the call writes: build again from a
  *   pair table, and send the messages again. A preview writes the spare memory alone.

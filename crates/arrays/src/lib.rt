@@ -18,9 +18,7 @@ pub fn fill<T: Copy>(items: &mut [T], from: usize, to: usize, value: T)
     }
 }
 
-// Copies the first n items. It stays a function of its own, which is told that the two lie apart: put into a caller that has them in boards, it would be
-// a `memmove`, which the archive would then need from outside.
-#[inline(never)]
+// Copies the first n items. By place: the library's `copy_from_slice` is a `memmove` in a preview, which the archive would need from outside.
 pub fn copy<T: Copy>(from: &[T], to: &mut [T], n: usize)
     requires { (n ≤ length from.now) × (n ≤ length to.old) }
     ensures { to.new ≡ take n from.now ++ drop n to.old }

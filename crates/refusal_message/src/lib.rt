@@ -29,8 +29,8 @@ fn check_board(board: BoardRef<'_>, short: bool) -> Result<(), Refusal>
     Ok(())
 }
 
-// Whether 10 applies to a valid message, on a board to which 1 to 6 do not apply. It is put into the calls, as `check_message_on` is: those have a frame,
-// where a function of its own would keep words below the stack pointer, which the gate refuses; and a list then makes no `BoardRef` for each message.
+// Whether 10 applies to a valid message, on a board to which 1 to 6 do not apply. It is put into the calls, as `check_message_on` is, so that a list makes
+// no `BoardRef` for each message. As a function of its own that one would keep words below the stack pointer, which the gate refuses.
 #[inline(always)]
 pub fn not_later(board: BoardRef<'_>, message: Message) -> bool
     requires ready { Ready (ref_board board) }

@@ -1,6 +1,6 @@
 -- `pairs_shift::insert` meets its contract. The loop's invariant: the words below i are those after the insertion, and the carried word is the next.
 use mathlib.Core.Path.{◌≡◌}
-use Prim.Native.Nat.{◌+◌, ◌≤◌, ◌-◌}
+use Prim.Native.Nat.{◌+◌}
 use lib.ListN.{length}
 use Rattle.arrays.proofs.Storing.{Storing}
 use Rattle.pairs_shift.proofs.Words.{inserted_at}

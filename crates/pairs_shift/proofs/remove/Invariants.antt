@@ -1,5 +1,4 @@
 -- `pairs_shift::remove` meets its contract. The loop's invariant: the words below i are those after the removal, the others as they came.
-use Prim.Native.Nat.{◌+◌, ◌≤◌, ◌-◌}
 use mathlib.Core.Path.{◌≡◌}
 use lib.ListN.{length}
 use Rattle.arrays.proofs.Storing.{Storing}
